@@ -1,12 +1,11 @@
 #!/usr/bin/env python3
 """Runs the commands of README.md, docs/PLANNING.md and docs/PAGE.md: planning.py [PROGRAM [PAGE_PROGRAM]]
 
-A block that is headed `rules FILE`, `demand FILE` or `roster FILE` must stand in that file, line for line. The commands
-of a `console` block are run as a shell runs them, in a folder with `examples` and the scripts, and what they
-print must be what the page shows; a last line `...` stands for further lines. Commands that stand in a block of their
-own, as in the box for planners, must end with status 0; where PAGE.md names a labels text, it is the one that it
-shows. Each fault of the table of PLANNING.md must come from an edit of a day of examples/ below, and no fault may be
-missing there.
+A block that is headed `rules FILE`, `demand FILE`, `roster FILE` or `labels FILE` must stand in that file, line for
+line. The commands of a `console` block are run as a shell runs them, in a folder with `examples` and the scripts, and
+what they print must be what the page shows; a last line `...` stands for further lines. Commands that stand in a block
+of their own, as in the box for planners, must end with status 0. Each fault of the table of PLANNING.md must come from
+an edit of a day of examples/ below, and no fault may be missing there.
 
 The programs are those that `./roster` and `./roster-page` would run, or those that are named. Where there is none, it
 fails.
@@ -70,7 +69,7 @@ MANY = {
 
 
 def blocks():
-    return re.findall(r"^```(\w+)(?: (\S+))?\n(.*?)^```$", README + PAGE, re.M | re.S)
+    return re.findall(r"^```(\w+)(?: (\S+))?\n(.*?)^```$", README + PAGE + ROSTER_PAGE, re.M | re.S)
 
 
 def is_in_examples(name, text):
@@ -112,7 +111,7 @@ def bare_commands():
 def scripts(folder, program, page_program):
     """Writes the scripts that the pages name, which call these programs."""
     (folder / "roster").symlink_to(program)
-    for word in ("page", "table", "calendar"):
+    for word in ("page", "table", "coverage", "calendar"):
         script = folder / f"roster-{word}"
         script.write_text(f'#!/bin/sh\nexec "{page_program}" {word} "$@"\n')
         script.chmod(0o755)
@@ -152,8 +151,6 @@ def wrong_commands(folder):
 
 def wrong_bare_commands(folder):
     """Runs the commands that show nothing, in their order; an old certificate that PAGE.md names is the one before."""
-    labels = re.search(r"^```text\n(.*?)^```$", ROSTER_PAGE, re.M | re.S)[1]
-    (folder / "shop.labels").write_text(re.sub(r"^group .*\n", "", labels, flags=re.M))
     ran = 0
     for command in bare_commands():
         if command.startswith(LEFT):
@@ -173,7 +170,7 @@ def main():
     given = [*sys.argv[1:3], None, None]
     program, page_program = program_path(given=given[0]), program_path("roster_page", given[1])
     wrong = [f"not in {name}:\n{text}" for kind, name, text in blocks()
-             if kind in ("rules", "demand", "roster") and not is_in_examples(name, text)]
+             if kind in ("rules", "demand", "roster", "labels") and not is_in_examples(name, text)]
     with tempfile.TemporaryDirectory() as name:
         folder = pathlib.Path(name)
         (folder / "examples").symlink_to(TOP / "examples")

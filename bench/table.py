@@ -1,10 +1,11 @@
 #!/usr/bin/env python3
-"""Reads tables of `./roster-table` back: table.py [FOLDER [DAY..]]
+"""Reads tables of `./roster-table` and `./roster-coverage` back: table.py [FOLDER [DAY..]]
 
-For the days of bench/page.py (examples, and days that are made there) it says the table, reads it with the csv module
-of Python, and fails where a record lacks a field, the stretches do not give back the words of the certificate, two
-stretches of one code stand side by side, a shift's price is not that of the certificate, or a field could be read as
-a formula.
+For the days of bench/page.py (examples, and days that are made there) it says both tables, reads them with the csv
+module of Python, and fails where a record lacks a field, the stretches do not give back the words of the certificate,
+two stretches of one code stand side by side, a shift's price is not that of the certificate, or a field could be read
+as a formula; and where the words do not have what a record of coverage says, or prices and penalties do not come to the
+cost.
 """
 import csv
 import io
@@ -15,7 +16,9 @@ sys.dont_write_bytecode = True
 from built import program_path
 from page import DAYS, LABELS, MADE, run, texts
 
-HEAD = ["shift", "group", "code", "name", "first", "last", "begin", "end", "price"]
+HEAD = ["shift", "group", "code", "name", "first", "last", "begin", "end", "price", "employee", "amount"]
+COVER_HEAD = ["code", "name", "period", "begin", "end", "need", "have", "short", "over", "floor", "ceiling", "penalty",
+              "amount"]
 
 
 def stated(proof):
@@ -44,19 +47,43 @@ def faults(records, shifts):
         yield f"words {list(zip(words, prices))[:3]}.. in place of {shifts[:3]}.."
 
 
+def cover_faults(records, shifts, cost):
+    """What is wrong with the records of how these shifts cover the needs."""
+    total = sum(int(price) for _, price in shifts)
+    for record in records:
+        if len(record) != len(COVER_HEAD):
+            yield f"fields {record}"
+        code, period = plain(record[0]), int(record[2])
+        need, have, short, over = map(int, record[5:9])
+        if have != sum(word[period - 1] == code for word, _ in shifts) or need != have + short - over or short * over:
+            yield f"cover {record}"
+        total += int(record[11])
+    if cost != "none" and str(total) != cost:
+        yield f"total {total} in place of {cost}"
+
+
+def records_of(kind, head, words):
+    """The records of a table behind its head, or what is wrong."""
+    said = run([program_path("roster_page"), kind, *words])
+    records = list(csv.reader(io.StringIO(said.stdout.removeprefix("\ufeff"))))
+    wrong = [] if said.returncode == 0 and records[:1] == [head] else [f"status {said.returncode}: {said.stdout[:80]}"]
+    return records[1:], wrong
+
+
 def look(folder, name):
-    """Whether the table of a day is as it should be."""
-    rules, demand, proof = texts(folder, name)
-    words = [program_path("roster_page"), "table", rules, demand, proof]
+    """Whether the tables of a day are as they should be."""
+    words = list(texts(folder, name))
+    proof = pathlib.Path(words[2])
     if name in LABELS:
         labels = folder / f"{name}.labels"
         labels.write_text(LABELS[name])
         words.append(labels)
-    said = run(words)
-    records = list(csv.reader(io.StringIO(said.stdout)))
-    wrong = [] if said.returncode == 0 and records[:1] == [HEAD] else [f"status {said.returncode}: {said.stdout[:80]}"]
-    wrong = wrong or list(faults(records[1:], stated(proof)))
-    print(f"{name}: {len(records) - 1} records" + "".join(f"\n  {line}" for line in wrong))
+    cost = next(line.split(" ")[1] for line in proof.read_text().splitlines() if line.startswith("cost "))
+    records, wrong = records_of("table", HEAD, words)
+    wrong = wrong or list(faults(records, stated(proof)))
+    covers, missing = records_of("coverage", COVER_HEAD, words)
+    wrong += missing or list(cover_faults(covers, stated(proof), cost))
+    print(f"{name}: {len(records)} and {len(covers)} records" + "".join(f"\n  {line}" for line in wrong))
     return not wrong
 
 

@@ -1,4 +1,4 @@
-# Completion for bash of roster, roster-page, roster-table and roster-calendar.
+# Completion for bash of roster, roster-page, roster-table, roster-coverage and roster-calendar.
 
 # Offers names of files.
 _roster_files() {
@@ -34,4 +34,4 @@ _roster_page() {
 }
 
 complete -F _roster roster
-complete -F _roster_page roster-page roster-table roster-calendar
+complete -F _roster_page roster-page roster-table roster-coverage roster-calendar

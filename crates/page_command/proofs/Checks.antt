@@ -36,7 +36,7 @@ use Rattle.page_command.specs.Judgement as judgement
 use Rattle.page_command.specs.Old.{RefusedOld, SaysOldFault, old_of}
 use Rattle.page_command.specs.Report.{LineAnswers, ReportAnswers, RosterAnswers, is_report}
 use Rattle.page_command.specs.Report as report
-use Rattle.page_command.specs.Shown.{IsShown, certified, stated}
+use Rattle.page_command.specs.Shown.{Showing, certified, stated}
 use Rattle.page_command.specs.declared.kind.Kind.{Kind}
 
 -- the text tells a certificate that is accepted, where the verdict is a yes
@@ -45,11 +45,11 @@ yes-accepted i text cost bound judged = (judged.0, judged.1, judged.2.0)
 
 module _ (k : Kind) (d : Labels) (old : Option (List Shift)) (i : Instance) where
   pub proof-drawn : (text : List ℕ) (cost bound : Option ℕ) (r : Result Answer Memory) → IsJudged i text (Said (Yes cost bound))
-      → IfOk r (λ a. (a.status ≡ 0) × ((c : Cert) → proof_of i text ≡ Ok c → IsShown k d i (certified c) old a.output))
+      → IfOk r (λ a. (c : Cert) → proof_of i text ≡ Ok c → Showing k d i (certified c) old a.status a.output)
       → IfOk r (λ a. ProofAnswers (Judgement k d old) i text a.status a.output)
   proof-drawn text cost bound (Err e) judged h = tt
   proof-drawn text cost bound (Ok a) judged h =
-      rw h.0 (asked.ProofAnswers.accepted judged.0 0 a.output judged.1 (judgement.Judgement.yes a.output (record { accepted = judged.2.0; trusted = judged.2.3; shown = h.1 judged.0 judged.1 })))
+      asked.ProofAnswers.accepted judged.0 a.status a.output judged.1 (judgement.Judgement.yes a.status a.output (record { accepted = judged.2.0; trusted = judged.2.3; shown = h judged.0 judged.1 }))
 
   pub proof-refused-why : (text : List ℕ) (why : Why) (r : Result Answer Memory) → IsJudged i text (Said (No why))
       → IfOk r (λ a. (a.status ≡ 1) × (a.output ≡ verdict_text (No why))) → IfOk r (λ a. ProofAnswers (Judgement k d old) i text a.status a.output)
@@ -58,11 +58,11 @@ module _ (k : Kind) (d : Labels) (old : Option (List Shift)) (i : Instance) wher
       rw h.0 (asked.ProofAnswers.accepted judged.0 1 a.output judged.1 (judgement.Judgement.no a.output (record { why = why; cause = judged.2; line = h.1 })))
 
   -- a stated roster
-  pub stated-allowed : (shifts : List Shift) (v : Valued) (r : Result Answer Memory) → IsValued i shifts v → IfOk r (λ a. (a.status ≡ 0) × IsShown k d i (stated v) old a.output)
+  pub stated-allowed : (shifts : List Shift) (v : Valued) (r : Result Answer Memory) → IsValued i shifts v → IfOk r (λ a. Showing k d i (stated v) old a.status a.output)
       → IfOk r (λ a. StatedJudgement k d old i shifts a.status a.output)
   stated-allowed shifts v (Err e) is h = tt
   stated-allowed shifts v (Ok a) is h =
-      rw h.0 (judgement.StatedJudgement.allowed a.output (record { value = v; is = is; costs = value-costs i shifts v is; shown = h.1 }))
+      judgement.StatedJudgement.allowed a.status a.output (record { value = v; is = is; costs = value-costs i shifts v is; shown = h })
 
   causes-told : (shifts : List Shift) (causes : List Cause) (s : ℕ) (output : List ℕ) → AreCauses i shifts causes → StatedAnswer i shifts s output → StatedJudgement k d old i shifts s output
   causes-told shifts causes s output are (values.StatedAnswer.allowed x h) = absurd (are.never h.value.cost h.costs)

@@ -36,11 +36,11 @@ use Rattle.page_labels.specs.LabelsOf.{labels_of}
 use Rattle.page_labels.specs.declared.fault.LabelFault.{LabelFault}
 use Rattle.page_labels.specs.declared.clock.Clock.{Clock}
 use Rattle.page_labels.specs.declared.labels.Labels.{Labels}
-use Rattle.roster_csv.specs.declared.roster_calendar.date.Date.{Date}
+use Rattle.page_command.specs.declared.kind.CalendarDay.{CalendarDay}
 use Rattle.text_commands.specs.what_if.Value.{SaysRosterFault}
 use Rattle.page_command.specs.Check.{AnswersBeside, AnswersLabelled, BesideAnswers, LabelAnswers, OldAnswers, RefusedLabels}
 use Rattle.page_command.specs.Check as answers
-use Rattle.page_command.specs.Dated.{AnswersDated, CalendarAnswers, ClockAnswers, no_clock_line, setting_of}
+use Rattle.page_command.specs.Dated.{AnswersDated, CalendarAnswers, ClockAnswers, no_clock_line, events_on}
 use Rattle.page_command.specs.Dated as dated
 use Rattle.page_command.specs.Draw.{IsPage}
 use Rattle.page_command.specs.Judgement.{Judgement, StatedJudgement}
@@ -50,9 +50,10 @@ use Rattle.page_command.specs.Old as old_text
 use Rattle.page_command.specs.declared.old_fault.OldFault.{OldFault}
 use Rattle.page_command.specs.Report.{IsRead, LineAnswers, ReportAnswers, RosterAnswers, SaysTextFault, is_report}
 use Rattle.page_command.specs.Report as report
-use Rattle.page_command.specs.Shown.{IsShown, certified, stated}
+use Rattle.page_command.specs.Shown.{IsShown, Showing, certified, line_instead, stated}
+use Rattle.page_command.specs.Shown as showing
 use Rattle.page_command.specs.declared.kind.Kind.{Kind}
-use Rattle.page_command.specs.declared.kind.Kind.TheVariants.{Page, Table, Calendar}
+use Rattle.page_command.specs.declared.kind.Kind.TheVariants.{Page, Table, Coverage, Calendar}
 use Rattle.page_command.specs.declared.roster.ShownRoster.{ShownRoster}
 use Rattle.page_command.specs.OnePage.{AreSameButTrees, AreTreesOfRows, ArePagesButTrees}
 use Rattle.page_command.specs.Rows.{AreDerived, IsDerived, rows_of, rules_of}
@@ -101,12 +102,15 @@ pages_once d i r old a b h k =
         title = left.title ∙ sym right.title;
         words = left.words ∙ sym right.words;
         money = left.money ∙ sym right.money;
+        off = left.off ∙ sym right.off;
         times = left.times ∙ sym right.times;
+        stated = left.stated ∙ sym right.stated;
         figures = left.figures ∙ sym right.figures;
         changes = left.changes ∙ ap (λ (c : Comparison). c.changes) same ∙ sym right.changes;
         rows = rows;
         columns = left.columns ∙ sym right.columns;
         tables = left.tables ∙ sym right.tables;
+        read = left.read ∙ sym right.read;
         derivations = trees_of_rows i k.content.rows h.content.derivations k.content.derivations
             (subst (λ (rs : List Row). AreDerived i rs h.content.derivations) rows left.derivations) right.derivations;
       };
@@ -118,12 +122,31 @@ pages_once d i r old a b h k =
 shown_once : (n : Kind) (d : Labels) (i : Instance) (r : ShownRoster) (old : Option (List Shift)) (a b : List ℕ) → IsShown n d i r old a → IsShown n d i r old b → AreSameButTrees a b
 shown_once Page d i r old a b h k = inr (pages_once d i r old a b h k)
 shown_once Table d i r old a b h k = inl (h ∙ sym k)
+shown_once Coverage d i r old a b h k = inl (h ∙ sym k)
 shown_once (Calendar x) d i r old a b h k = inl (h ∙ sym k)
 
+-- the line that is said in place of what shows a roster is one
+same_line : (o : Option (List ℕ)) (a b : List ℕ) → o ≡ Some a → o ≡ Some b → a ≡ b
+same_line o a b e f = cc
+
+abbrev IsSaid : Option (List ℕ) → Type 0
+IsSaid None = ⊥
+IsSaid (Some line) = Unit {0}
+
+line_or_none : (o : Option (List ℕ)) (a : List ℕ) → o ≡ Some a → o ≡ None → ⊥
+line_or_none o a e f = subst IsSaid (sym e ∙ f) tt
+
+-- two answers with one roster
+showing_once : (n : Kind) (d : Labels) (i : Instance) (r : ShownRoster) (old : Option (List Shift)) (s t : ℕ) (a b : List ℕ) → Showing n d i r old s a → Showing n d i r old t b → AreAlike s t a b
+showing_once n d i r old s t a b (showing.Showing.shown x e h) (showing.Showing.shown y f k) = (refl, shown_once n d i r old a b h k)
+showing_once n d i r old s t a b (showing.Showing.shown x e h) (showing.Showing.line_said y f) = absurd (line_or_none (line_instead n d r) b f e)
+showing_once n d i r old s t a b (showing.Showing.line_said x e) (showing.Showing.shown y f k) = absurd (line_or_none (line_instead n d r) a e f)
+showing_once n d i r old s t a b (showing.Showing.line_said x e) (showing.Showing.line_said y f) = (refl, inl (same_line (line_instead n d r) a b e f))
+
 judged_once : (n : Kind) (d : Labels) (old : Option (List Shift)) (i : Instance) (c : Cert) (s t : ℕ) (a b : List ℕ) → Judgement n d old i c s a → Judgement n d old i c t b → AreAlike s t a b
-judged_once n d old i c s t a b (judgement.Judgement.yes x h) (judgement.Judgement.yes y k) = (refl, shown_once n d i (certified c) old a b h.shown k.shown)
-judged_once n d old i c s t a b (judgement.Judgement.yes x h) (judgement.Judgement.no y k) = absurd (cause-refuses i c h.accepted k.why k.cause.holds)
-judged_once n d old i c s t a b (judgement.Judgement.no x h) (judgement.Judgement.yes y k) = absurd (cause-refuses i c k.accepted h.why h.cause.holds)
+judged_once n d old i c s t a b (judgement.Judgement.yes u x h) (judgement.Judgement.yes v y k) = showing_once n d i (certified c) old s t a b h.shown k.shown
+judged_once n d old i c s t a b (judgement.Judgement.yes u x h) (judgement.Judgement.no y k) = absurd (cause-refuses i c h.accepted k.why k.cause.holds)
+judged_once n d old i c s t a b (judgement.Judgement.no x h) (judgement.Judgement.yes v y k) = absurd (cause-refuses i c k.accepted h.why h.cause.holds)
 judged_once n d old i c s t a b (judgement.Judgement.no x h) (judgement.Judgement.no y k) =
     (refl, inl (h.line ∙ ap (λ (w : Why). verdict_text (No w)) (one-first i c h.why k.why h.cause k.cause) ∙ sym k.line))
 
@@ -145,11 +168,11 @@ proof_once n d old i text s t a b (checks.ProofAnswers.refused xs h) (checks.Pro
 -- a stated roster has one answer
 stated_twice : (n : Kind) (d : Labels) (old : Option (List Shift)) (i : Instance) (shifts : List Shift) (s t : ℕ) (a b : List ℕ) → StatedJudgement n d old i shifts s a → StatedJudgement n d old i shifts t b
     → AreAlike s t a b
-stated_twice n d old i shifts s t a b (judgement.StatedJudgement.allowed x h) (judgement.StatedJudgement.allowed y k) =
+stated_twice n d old i shifts s t a b (judgement.StatedJudgement.allowed u x h) (judgement.StatedJudgement.allowed v y k) =
     let same : h.value ≡ k.value = one_value i shifts h.value k.value h.is k.is in
-    (refl, shown_once n d i (stated k.value) old a b (subst (λ (v : Valued). IsShown n d i (stated v) old a) same h.shown) k.shown)
-stated_twice n d old i shifts s t a b (judgement.StatedJudgement.allowed x h) (judgement.StatedJudgement.not_allowed y k) = absurd (k.are.never h.value.cost h.costs)
-stated_twice n d old i shifts s t a b (judgement.StatedJudgement.not_allowed x h) (judgement.StatedJudgement.allowed y k) = absurd (h.are.never k.value.cost k.costs)
+    showing_once n d i (stated k.value) old s t a b (subst (λ (w : Valued). Showing n d i (stated w) old s a) same h.shown) k.shown
+stated_twice n d old i shifts s t a b (judgement.StatedJudgement.allowed u x h) (judgement.StatedJudgement.not_allowed y k) = absurd (k.are.never h.value.cost h.costs)
+stated_twice n d old i shifts s t a b (judgement.StatedJudgement.not_allowed x h) (judgement.StatedJudgement.allowed v y k) = absurd (h.are.never k.value.cost k.costs)
 stated_twice n d old i shifts s t a b (judgement.StatedJudgement.not_allowed x h) (judgement.StatedJudgement.not_allowed y k) =
     (refl, inl ((stated-once i shifts 1 1 a b (values.StatedAnswer.refused a h) (values.StatedAnswer.refused b k)).1))
 
@@ -298,23 +321,23 @@ IsClocked (Some c) = Unit {0}
 clock_or_none : (o : Option Clock) (c : Clock) → o ≡ Some c → o ≡ None → ⊥
 clock_or_none o c e f = subst IsClocked (sym e ∙ f) tt
 
-clock_once : (date : Date) (d : Labels) (i : Instance) (text : List ℕ) (s t : ℕ) (a b : List ℕ) → ClockAnswers date d i text s a → ClockAnswers date d i text t b → AreAlike s t a b
-clock_once date d i text s t a b (dated.ClockAnswers.answered c x xs e h) (dated.ClockAnswers.answered z y ys f k) =
-    roster_once (Calendar (setting_of date z)) d None i text s t a b
-    (subst (λ (q : Clock). RosterAnswers (Calendar (setting_of date q)) d None i text s a) (same_clock d.clock c z e f) h) k
-clock_once date d i text s t a b (dated.ClockAnswers.answered c x xs e h) (dated.ClockAnswers.no_clock y ys f k) = absurd (clock_or_none d.clock c e f)
-clock_once date d i text s t a b (dated.ClockAnswers.no_clock x xs e h) (dated.ClockAnswers.answered z y ys f k) = absurd (clock_or_none d.clock z f e)
-clock_once date d i text s t a b (dated.ClockAnswers.no_clock x xs e h) (dated.ClockAnswers.no_clock y ys f k) = line_once i text no_clock_line s t a b h k
+clock_once : (day : CalendarDay) (d : Labels) (i : Instance) (text : List ℕ) (s t : ℕ) (a b : List ℕ) → ClockAnswers day d i text s a → ClockAnswers day d i text t b → AreAlike s t a b
+clock_once day d i text s t a b (dated.ClockAnswers.answered c x xs e h) (dated.ClockAnswers.answered z y ys f k) =
+    roster_once (Calendar (events_on day z)) d None i text s t a b
+    (subst (λ (q : Clock). RosterAnswers (Calendar (events_on day q)) d None i text s a) (same_clock d.clock c z e f) h) k
+clock_once day d i text s t a b (dated.ClockAnswers.answered c x xs e h) (dated.ClockAnswers.no_clock y ys f k) = absurd (clock_or_none d.clock c e f)
+clock_once day d i text s t a b (dated.ClockAnswers.no_clock x xs e h) (dated.ClockAnswers.answered z y ys f k) = absurd (clock_or_none d.clock z f e)
+clock_once day d i text s t a b (dated.ClockAnswers.no_clock x xs e h) (dated.ClockAnswers.no_clock y ys f k) = line_once i text no_clock_line s t a b h k
 
-calendar_once : (date : Date) (labels : List ℕ) → IsOnce (CalendarAnswers date labels)
-calendar_once date labels i text s t a b (dated.CalendarAnswers.read d x xs e h) (dated.CalendarAnswers.read g y ys f k) =
-    clock_once date g i text s t a b
-    (subst (λ (q : Labels). ClockAnswers date q i text s a) (same_ok (labels_of i labels) d g e f) h) k
-calendar_once date labels i text s t a b (dated.CalendarAnswers.read d x xs e h) (dated.CalendarAnswers.labels_refused y ys k) =
+calendar_once : (day : CalendarDay) (labels : List ℕ) → IsOnce (CalendarAnswers day labels)
+calendar_once day labels i text s t a b (dated.CalendarAnswers.read d x xs e h) (dated.CalendarAnswers.read g y ys f k) =
+    clock_once day g i text s t a b
+    (subst (λ (q : Labels). ClockAnswers day q i text s a) (same_ok (labels_of i labels) d g e f) h) k
+calendar_once day labels i text s t a b (dated.CalendarAnswers.read d x xs e h) (dated.CalendarAnswers.labels_refused y ys k) =
     absurd (not_both (labels_of i labels) d k.fault.fault e k.fault.reading)
-calendar_once date labels i text s t a b (dated.CalendarAnswers.labels_refused x xs h) (dated.CalendarAnswers.read g y ys f k) =
+calendar_once day labels i text s t a b (dated.CalendarAnswers.labels_refused x xs h) (dated.CalendarAnswers.read g y ys f k) =
     absurd (not_both (labels_of i labels) g h.fault.fault f h.fault.reading)
-calendar_once date labels i text s t a b (dated.CalendarAnswers.labels_refused x xs h) (dated.CalendarAnswers.labels_refused y ys k) =
+calendar_once day labels i text s t a b (dated.CalendarAnswers.labels_refused x xs h) (dated.CalendarAnswers.labels_refused y ys k) =
     refused_once labels i text s t a b h k
 
 read_texts_once : (A : TextAnswers) → IsOnce A → (held : Texts) (rules demand name : List ℕ) (s t : ℕ) (a b : List ℕ) → TextsAnswers A (Some held) rules demand name s a
@@ -325,14 +348,14 @@ read_texts_once A once held rules demand name s t a b (checks.TextsAnswers.accep
 read_texts_once A once held rules demand name s t a b (checks.TextsAnswers.refused xs h) (checks.TextsAnswers.accepted f y ys q k) = absurd (no_fault rules f h.fault q.reading h.reading)
 read_texts_once A once held rules demand name s t a b (checks.TextsAnswers.refused xs h) (checks.TextsAnswers.refused ys k) = (refl, inl (faults_once rules a b h k))
 
-pub dated_once : (date : Date) (held : Texts) (rules demand proof labels : List ℕ) (s t : ℕ) (a b : List ℕ) → AnswersDated date (Some held) rules demand proof labels s a
-    → AnswersDated date (Some held) rules demand proof labels t b → AreAlike s t a b
-dated_once date held rules demand proof labels s t a b h k =
+pub dated_once : (day : CalendarDay) (held : Texts) (rules demand proof labels : List ℕ) (s t : ℕ) (a b : List ℕ) → AnswersDated day (Some held) rules demand proof labels s a
+    → AnswersDated day (Some held) rules demand proof labels t b → AreAlike s t a b
+dated_once day held rules demand proof labels s t a b h k =
     let rules_same = same_text held rules h.text k.text h.holds k.holds in
     let labels_same = same_text held labels h.answers.text k.answers.text h.answers.holds k.answers.holds in
     let demand_same = same_text held demand h.answers.answers.text k.answers.answers.text h.answers.answers.holds k.answers.answers.holds in
-    let one = subst (λ (r : List ℕ). TextsAnswers (CalendarAnswers date h.answers.text) (Some held) r h.answers.answers.text proof s a) rules_same h.answers.answers.answers in
-    let two = subst (λ (l : List ℕ). TextsAnswers (CalendarAnswers date l) (Some held) k.text h.answers.answers.text proof s a) labels_same one in
-    let three = subst (λ (d : List ℕ). TextsAnswers (CalendarAnswers date k.answers.text) (Some held) k.text d proof s a) demand_same two in
-    read_texts_once (CalendarAnswers date k.answers.text) (calendar_once date k.answers.text) held k.text k.answers.answers.text proof s t a b three
+    let one = subst (λ (r : List ℕ). TextsAnswers (CalendarAnswers day h.answers.text) (Some held) r h.answers.answers.text proof s a) rules_same h.answers.answers.answers in
+    let two = subst (λ (l : List ℕ). TextsAnswers (CalendarAnswers day l) (Some held) k.text h.answers.answers.text proof s a) labels_same one in
+    let three = subst (λ (d : List ℕ). TextsAnswers (CalendarAnswers day k.answers.text) (Some held) k.text d proof s a) demand_same two in
+    read_texts_once (CalendarAnswers day k.answers.text) (calendar_once day k.answers.text) held k.text k.answers.answers.text proof s t a b three
     k.answers.answers.answers

@@ -96,7 +96,7 @@ choice P false r h = (h, tt)
 module _ (i : Instance) (d : Labels) (c : Comparison) (shifts : List Shift) (sound : IsSoundInstance i) (prices : Each (λ (s : Shift). IsTeamPrice i (duty s) s.price) shifts) where
   priced_own : (k : ℕ) (s : Shift) → IsTeamPrice i (duty s) s.price → Each (IsPricedRow i) (own_row i d c shifts k s)
   unfolding own_row
-  priced_own k s h = choice (IsPricedRow i) (has_row c shifts k s) (row_of i d c shifts k s) (priced_row i d c shifts k s sound h)
+  priced_own k s h = choice (IsPricedRow i) (has_row d c shifts k s) (row_of i d c shifts k s) (priced_row i d c shifts k s sound h)
 
   by_shift : (k : ℕ) (o : Option Shift) → slice_get shifts k ≡ o → Each (IsPricedRow i) (elim o [ None ↦ [] | Some s ↦ own_row i d c shifts k s ])
   by_shift k None e = tt

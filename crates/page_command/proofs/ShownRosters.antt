@@ -1,5 +1,5 @@
 -- What is accepted or allowed can be shown.
-use Rattle.std.proofs.Common.{◌≡◌, ℕ, List, Option, Result, Ok, Err, IfOk, arith, sym, subst}
+use Rattle.std.proofs.Common.{◌≡◌, ℕ, List, Option, None, Result, Ok, Err, IfOk, arith, sym, subst}
 use Rattle.std.proofs.lemmas.Option.{none-some}
 use Rattle.std.specs.Prelude.{IfSome}
 use Rattle.roster_model.specs.declared.instance.Instance.{Instance}
@@ -18,8 +18,10 @@ use Rattle.answers.specs.declared.answer.Answer.{Answer}
 use Rattle.answers.proofs.OneReading.{same_ok}
 use Rattle.page_labels.specs.declared.labels.Labels.{Labels}
 use Rattle.page_command.specs.Draw.{IsSoundShown}
-use Rattle.page_command.specs.Shown.{IsShown, certified, stated}
+use Rattle.page_command.specs.Shown.{IsShown, Showing, certified, line_instead, stated}
+use Rattle.page_command.specs.Shown as showing
 use Rattle.page_command.specs.declared.kind.Kind.{Kind}
+use Rattle.page_command.specs.declared.roster.ShownRoster.{ShownRoster}
 
 -- the roster of a sound certificate that is as it states
 pub sound-certified : (i : Instance) (c : Cert) → IsSoundCert i c → IfSome c.cost (IsStated i c.shifts) → IsSoundShown i (certified c)
@@ -41,8 +43,14 @@ sound-stated i shifts v h =
 
 -- what shows the roster of a certificate shows that of the text's certificate, which is one
 pub accepted-shown : (k : Kind) (d : Labels) (old : Option (List Shift)) (i : Instance) (text : List ℕ) (cert : Cert) (r : Result Answer Memory) → proof_of i text ≡ Ok cert
-    → IfOk r (λ a. (a.status ≡ 0) × IsShown k d i (certified cert) old a.output)
-    → IfOk r (λ a. (a.status ≡ 0) × ((c : Cert) → proof_of i text ≡ Ok c → IsShown k d i (certified c) old a.output))
+    → IfOk r (λ a. Showing k d i (certified cert) old a.status a.output)
+    → IfOk r (λ a. (c : Cert) → proof_of i text ≡ Ok c → Showing k d i (certified c) old a.status a.output)
 accepted-shown k d old i text cert (Err e) reading h = tt
 accepted-shown k d old i text cert (Ok a) reading h =
-    (h.0, λ c e. subst (λ (x : Cert). IsShown k d i (certified x) old a.output) (same_ok (proof_of i text) cert c reading e) h.1)
+    λ c e. subst (λ (x : Cert). Showing k d i (certified x) old a.status a.output) (same_ok (proof_of i text) cert c reading e) h
+
+-- a roster is shown, or a line is said in its place
+pub roster-shown : (k : Kind) (d : Labels) (i : Instance) (r : ShownRoster) (old : Option (List Shift)) (x : Result Answer Memory) → line_instead k d r ≡ None
+    → IfOk x (λ a. (a.status ≡ 0) × IsShown k d i r old a.output) → IfOk x (λ a. Showing k d i r old a.status a.output)
+roster-shown k d i r old (Err e) none h = tt
+roster-shown k d i r old (Ok a) none h = rw h.0 (showing.Showing.shown a.output none h.1)

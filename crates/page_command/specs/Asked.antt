@@ -7,5 +7,5 @@ abbrev pub asked : program.Form → Form
 asked (variants.Shown kind rules demand proof) = shown kind rules.now demand.now proof.now
 asked (variants.Labelled kind rules demand proof labels) = labelled kind rules.now demand.now proof.now labels.now
 asked (variants.Beside rules demand proof labels old) = beside rules.now demand.now proof.now labels.now old.now
-asked (variants.Dated date rules demand proof labels) = dated date rules.now demand.now proof.now labels.now
+asked (variants.Dated day rules demand proof labels) = dated day rules.now demand.now proof.now labels.now
 asked variants.None = none

@@ -4,45 +4,45 @@ use Rattle.roster_model.specs.declared.instance.Instance.{Instance}
 use Rattle.page_labels.specs.declared.labels.Labels.{Labels}
 use Rattle.shelf.specs.Shelf.{front_to}
 use Rattle.answers.specs.Fronts.{front-cases}
-use Rattle.roster_csv.specs.declared.roster_calendar.date.Date.{Date}
+use Rattle.page_command.specs.declared.kind.CalendarDay.{CalendarDay}
 use Rattle.page_command.specs.Check.{RefusedLabels}
-use Rattle.page_command.specs.Dated.{CalendarAnswers, ClockAnswers, no_clock_line, setting_of}
+use Rattle.page_command.specs.Dated.{CalendarAnswers, ClockAnswers, no_clock_line, events_on}
 use Rattle.page_command.specs.Dated as dated
 use Rattle.page_command.specs.Fronts.{labels-alike, labels-refused-whole, line-whole, long-roster}
 use Rattle.page_command.specs.declared.kind.Kind.TheVariants.{Calendar}
 
 -- a third text over the limit is refused
-long-clock : (date : Date) (d : Labels) (i : Instance) (text : List ℕ) (s : ℕ) (output : List ℕ)
-    → 1073741824 < length (front_to 1073741824 text) → ClockAnswers date d i (front_to 1073741824 text) s output
-    → ClockAnswers date d i text s output
-long-clock date d i text s output lt (dated.ClockAnswers.answered c t x e a) =
+long-clock : (day : CalendarDay) (d : Labels) (i : Instance) (text : List ℕ) (s : ℕ) (output : List ℕ)
+    → 1073741824 < length (front_to 1073741824 text) → ClockAnswers day d i (front_to 1073741824 text) s output
+    → ClockAnswers day d i text s output
+long-clock day d i text s output lt (dated.ClockAnswers.answered c t x e a) =
     dated.ClockAnswers.answered c t x e
-    (long-roster (Calendar (setting_of date c)) (Calendar (setting_of date c)) d None i text t x lt a)
-long-clock date d i text s output lt (dated.ClockAnswers.no_clock t x e a) =
+    (long-roster (Calendar (events_on day c)) (Calendar (events_on day c)) d None i text t x lt a)
+long-clock day d i text s output lt (dated.ClockAnswers.no_clock t x e a) =
     dated.ClockAnswers.no_clock t x e (line-whole i text no_clock_line t x a)
 
-module _ (date : Date) (labels : List ℕ) (i : Instance) (text : List ℕ) where
+module _ (day : CalendarDay) (labels : List ℕ) (i : Instance) (text : List ℕ) where
   long-calendar : (s : ℕ) (output : List ℕ) → 1073741824 < length (front_to 1073741824 text)
-      → CalendarAnswers date labels i (front_to 1073741824 text) s output
-      → CalendarAnswers date labels i text s output
+      → CalendarAnswers day labels i (front_to 1073741824 text) s output
+      → CalendarAnswers day labels i text s output
   long-calendar s output lt (dated.CalendarAnswers.read d t x e a) =
       dated.CalendarAnswers.read d t x e
-      (long-clock date d i text t x lt a)
+      (long-clock day d i text t x lt a)
   long-calendar s output lt (dated.CalendarAnswers.labels_refused t x a) =
       dated.CalendarAnswers.labels_refused t x
       (record { line = a.line; fault = a.fault; answers = line-whole i text a.line t x a.answers })
 
   pub calendar-fronts : (s : ℕ) (output : List ℕ)
-      → CalendarAnswers date labels i (front_to 1073741824 text) s output
-      → CalendarAnswers date labels i text s output
+      → CalendarAnswers day labels i (front_to 1073741824 text) s output
+      → CalendarAnswers day labels i text s output
   calendar-fronts s output a = elim (front-cases 1073741824 text) [
     | inl over ↦ long-calendar s output over.1 a
-    | inr same ↦ subst (λ (t : List ℕ). CalendarAnswers date labels i t s output) same a
+    | inr same ↦ subst (λ (t : List ℕ). CalendarAnswers day labels i t s output) same a
   ]
 
   pub calendar-labels-whole : (s : ℕ) (output : List ℕ)
-      → CalendarAnswers date (front_to 65536 labels) i text s output
-      → CalendarAnswers date labels i text s output
+      → CalendarAnswers day (front_to 65536 labels) i text s output
+      → CalendarAnswers day labels i text s output
   calendar-labels-whole s output (dated.CalendarAnswers.read d t x e a) =
       dated.CalendarAnswers.read d t x (sym (labels-alike i labels) ∙ e) a
   calendar-labels-whole s output (dated.CalendarAnswers.labels_refused t x a) =

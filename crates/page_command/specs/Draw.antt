@@ -8,9 +8,10 @@ use Rattle.roster_model.specs.Coverage.{covered, penalty}
 use Rattle.roster_model.specs.Folds.{Each, sum_n}
 use Rattle.certificates.specs.certificate_laws.Accepted.{IsStated}
 use Rattle.certificates.specs.RosterCauses.{duties, stated_prices}
-use Rattle.page_labels.specs.Labels.{code_words}
+use Rattle.page_labels.specs.Labels.{code_words, decimals_of}
 use Rattle.page_labels.specs.declared.labels.Labels.{Labels}
 use Rattle.page_parts.specs.Elements.{places, written}
+use Rattle.page_parts.specs.declared.money.Money.{Money}
 use Rattle.page_text.specs.Columns.{column_of}
 use Rattle.page_text.specs.declared.column.CellCover.{CellCover}
 use Rattle.page_text.specs.declared.figures.Figures.{Figures}
@@ -54,19 +55,26 @@ figures_of i r (Some cost) = record {
 abbrev pub words_of : Labels → List CodeDef → List (List ℕ)
 words_of d cs = map (code_words d.codes) (places (length cs))
 
+-- what amounts are counted in, and their decimals
+abbrev pub money_of : Labels → Money
+money_of d = record { words = d.money; decimals = decimals_of d }
+
 -- what the page shows of a roster under labels, where this differs from an old roster
 pub record IsContentBeside (d : Labels) (i : Instance) (r : ShownRoster) (c : Comparison) (p : Content)
     : Type 0 where
   pub title : p.title ≡ d.title
   pub words : p.words ≡ words_of d i.grammar.codes
-  pub money : p.money ≡ d.money
+  pub money : p.money ≡ money_of d
+  pub off : p.off ≡ d.off
   pub times : p.times ≡ axis_times d.clock i.grammar.periods
+  pub stated : p.stated ≡ r.is_stated
   pub figures : p.figures ≡ figures_of i r r.cost
   pub changes : p.changes ≡ c.changes
   pub rows : p.rows ≡ rows_of i d c r.shifts
   pub derivations : AreDerived i p.rows p.derivations
   pub columns : p.columns ≡ columns_of i r r.cost
   pub tables : p.tables ≡ tables_of i d r.shifts (columns_of i r r.cost)
+  pub read : p.read ≡ []
 
 -- what the page shows of a roster under labels, beside an old roster where there is one
 pub record IsContent (d : Labels) (i : Instance) (r : ShownRoster) (old : Option (List Shift)) (p : Content)

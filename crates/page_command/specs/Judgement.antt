@@ -12,33 +12,35 @@ use Rattle.roster_value.specs.declared.valued.Valued.{Valued}
 use Rattle.roster_value.specs.Answers.{SaysCauses}
 use Rattle.roster_value.specs.Values.{IsValued}
 use Rattle.text_commands.specs.Check.{SaysNo}
-use Rattle.page_command.specs.Shown.{IsShown, certified, stated}
+use Rattle.page_command.specs.Shown.{Showing, certified, stated}
 use Rattle.page_command.specs.declared.kind.Kind.{Kind}
 
--- status 0: the certificate is accepted, what it states is true, and its roster is shown under labels, beside
--- an old one where there is one
-pub record SaysShown (k : Kind) (d : Labels) (old : Option (List Shift)) (i : Instance) (c : Cert) (output : List ℕ)
-    : Type 0 where
+-- the certificate is accepted, what it states is true, and its roster is shown under labels, beside an old one where
+-- there is one, or a line is said in its place
+pub record SaysShown (k : Kind) (d : Labels) (old : Option (List Shift)) (i : Instance) (c : Cert) (status : ℕ)
+    (output : List ℕ) : Type 0 where
   pub accepted : Accepts i c
   pub trusted : YesIsRight i c
-  pub shown : IsShown k d i (certified c) old output
+  pub shown : Showing k d i (certified c) old status output
 
 -- the answers for a certificate
 pub data Judgement (k : Kind) (d : Labels) (old : Option (List Shift)) (i : Instance) (c : Cert) :
     ℕ → List ℕ → Type 0 where
-  yes : (output : List ℕ) → SaysShown k d old i c output → Judgement k d old i c 0 output
+  yes : (status : ℕ) (output : List ℕ) → SaysShown k d old i c status output → Judgement k d old i c status output
   no : (output : List ℕ) → SaysNo i c output → Judgement k d old i c 1 output
 
--- status 0: the stated roster is allowed, and it is shown at its prices, of which no bound is proved
+-- the stated roster is allowed, and it is shown at its prices, of which no bound is proved, or a line is said in its
+-- place
 pub record SaysValued (k : Kind) (d : Labels) (old : Option (List Shift)) (i : Instance) (shifts : List Shift)
-    (output : List ℕ) : Type 0 where
+    (status : ℕ) (output : List ℕ) : Type 0 where
   pub value : Valued
   pub is : IsValued i shifts value
   pub costs : Costs i (duties shifts) value.cost
-  pub shown : IsShown k d i (stated value) old output
+  pub shown : Showing k d i (stated value) old status output
 
 -- the answers for a stated roster; where it is not allowed, those of `value`
 pub data StatedJudgement (k : Kind) (d : Labels) (old : Option (List Shift)) (i : Instance) (shifts : List Shift) :
     ℕ → List ℕ → Type 0 where
-  allowed : (output : List ℕ) → SaysValued k d old i shifts output → StatedJudgement k d old i shifts 0 output
+  allowed : (status : ℕ) (output : List ℕ) → SaysValued k d old i shifts status output
+      → StatedJudgement k d old i shifts status output
   not_allowed : (output : List ℕ) → SaysCauses i shifts output → StatedJudgement k d old i shifts 1 output

@@ -10,7 +10,7 @@ use Rattle.text_commands.specs.SameTexts.{AreTreesAtOnePrice}
 use Rattle.page_command.specs.Check.{AnswersBeside, AnswersLabelled, AnswersShown}
 use Rattle.page_command.specs.Dated.{AnswersDated}
 use Rattle.page_command.specs.declared.kind.Kind.{Kind}
-use Rattle.roster_csv.specs.declared.roster_calendar.date.Date.{Date}
+use Rattle.page_command.specs.declared.kind.CalendarDay.{CalendarDay}
 
 -- for each row two derivations of its word, at one price
 abbrev pub AreTreesOfRows : List Row → List (List ℕ) → List (List ℕ) → Type 0
@@ -23,12 +23,15 @@ pub record IsSameButTrees (c d : Content) : Type 0 where
   pub title : c.title ≡ d.title
   pub words : c.words ≡ d.words
   pub money : c.money ≡ d.money
+  pub off : c.off ≡ d.off
   pub times : c.times ≡ d.times
+  pub stated : c.stated ≡ d.stated
   pub figures : c.figures ≡ d.figures
   pub changes : c.changes ≡ d.changes
   pub rows : c.rows ≡ d.rows
   pub columns : c.columns ≡ d.columns
   pub tables : c.tables ≡ d.tables
+  pub read : c.read ≡ d.read
   pub derivations : AreTreesOfRows d.rows c.derivations d.derivations
 
 -- two pages of one day, the same but for the trees of the derivations
@@ -72,7 +75,7 @@ HaveOnePageBeside =
 -- two answers to the same day and the same four texts are equal
 abbrev pub HaveOneCalendar : Type 0
 HaveOneCalendar =
-    (date : Date) (held : Texts) (rules demand proof labels : List ℕ) (s t : ℕ) (a b : List ℕ)
-    → AnswersDated date (Some held) rules demand proof labels s a
-    → AnswersDated date (Some held) rules demand proof labels t b
+    (day : CalendarDay) (held : Texts) (rules demand proof labels : List ℕ) (s t : ℕ) (a b : List ℕ)
+    → AnswersDated day (Some held) rules demand proof labels s a
+    → AnswersDated day (Some held) rules demand proof labels t b
     → (s ≡ t) × AreSameButTrees a b

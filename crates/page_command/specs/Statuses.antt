@@ -7,24 +7,34 @@ use Rattle.page_labels.specs.declared.labels.Labels.{Labels}
 use Rattle.answers.specs.Statuses.{ends_at, proof-ends}
 use Rattle.page_command.specs.Check.{BesideAnswers, LabelAnswers, OldAnswers}
 use Rattle.page_command.specs.Check as check
-use Rattle.page_command.specs.Dated.{CalendarAnswers, ClockAnswers, no_clock_line, setting_of}
+use Rattle.page_command.specs.Dated.{CalendarAnswers, ClockAnswers, no_clock_line, events_on}
 use Rattle.page_command.specs.Dated as dated
 use Rattle.page_command.specs.Judgement.{Judgement, StatedJudgement}
 use Rattle.page_command.specs.Judgement as judgement
 use Rattle.page_command.specs.Report.{LineAnswers, ReportAnswers, RosterAnswers}
 use Rattle.page_command.specs.Report as report
+use Rattle.page_command.specs.Shown.{Showing, certified, stated}
+use Rattle.page_command.specs.Shown as showing
 use Rattle.page_command.specs.declared.kind.Kind.{Kind}
 use Rattle.page_command.specs.declared.kind.Kind.TheVariants.{Calendar}
-use Rattle.roster_csv.specs.declared.roster_calendar.date.Date.{Date}
+use Rattle.page_command.specs.declared.roster.ShownRoster.{ShownRoster}
+use Rattle.page_command.specs.declared.kind.CalendarDay.{CalendarDay}
+
+showing-ends : (k : Kind) (d : Labels) (i : Instance) (r : ShownRoster) (old : Option (List Shift)) (s : ℕ)
+    (output : List ℕ) → Showing k d i r old s output → (s ≢ 6) × (s ≢ 7)
+showing-ends k d i r old s output (showing.Showing.shown x e h) = ends_at s 0 refl (omega arith)
+showing-ends k d i r old s output (showing.Showing.line_said x e) = ends_at s 5 refl (omega arith)
 
 judged-ends : (k : Kind) (d : Labels) (old : Option (List Shift)) (i : Instance) (c : Cert) (s : ℕ) (output : List ℕ)
     → Judgement k d old i c s output → (s ≢ 6) × (s ≢ 7)
-judged-ends k d old i c s output (judgement.Judgement.yes x h) = ends_at s 0 refl (omega arith)
+judged-ends k d old i c s output (judgement.Judgement.yes x o h) =
+    showing-ends k d i (certified c) old s output h.shown
 judged-ends k d old i c s output (judgement.Judgement.no x h) = ends_at s 1 refl (omega arith)
 
 stated-ends : (k : Kind) (d : Labels) (old : Option (List Shift)) (i : Instance) (shifts : List Shift) (s : ℕ)
     (output : List ℕ) → StatedJudgement k d old i shifts s output → (s ≢ 6) × (s ≢ 7)
-stated-ends k d old i shifts s output (judgement.StatedJudgement.allowed x h) = ends_at s 0 refl (omega arith)
+stated-ends k d old i shifts s output (judgement.StatedJudgement.allowed x o h) =
+    showing-ends k d i (stated h.value) old s output h.shown
 stated-ends k d old i shifts s output (judgement.StatedJudgement.not_allowed x h) = ends_at s 1 refl (omega arith)
 
 module _ (k : Kind) (d : Labels) (old : Option (List Shift)) where
@@ -61,17 +71,17 @@ label-ends k labels old i text s output (check.LabelAnswers.answered d x o e a) 
 label-ends k labels old i text s output (check.LabelAnswers.labels_refused x o a) =
     line-ends i text a.line s output a.answers
 
-clock-ends : (date : Date) (d : Labels) (i : Instance) (text : List ℕ) (s : ℕ) (output : List ℕ)
-    → ClockAnswers date d i text s output → (s ≢ 6) × (s ≢ 7)
-clock-ends date d i text s output (dated.ClockAnswers.answered c x o e a) =
-    roster-ends (Calendar (setting_of date c)) d None i text s output a
-clock-ends date d i text s output (dated.ClockAnswers.no_clock x o e a) =
+clock-ends : (day : CalendarDay) (d : Labels) (i : Instance) (text : List ℕ) (s : ℕ) (output : List ℕ)
+    → ClockAnswers day d i text s output → (s ≢ 6) × (s ≢ 7)
+clock-ends day d i text s output (dated.ClockAnswers.answered c x o e a) =
+    roster-ends (Calendar (events_on day c)) d None i text s output a
+clock-ends day d i text s output (dated.ClockAnswers.no_clock x o e a) =
     line-ends i text no_clock_line s output a
 
 -- nor has a calendar
-pub calendar-ends : (date : Date) (labels : List ℕ) (i : Instance) (text : List ℕ) (s : ℕ) (output : List ℕ)
-    → CalendarAnswers date labels i text s output → (s ≢ 6) × (s ≢ 7)
-calendar-ends date labels i text s output (dated.CalendarAnswers.read d x o e a) =
-    clock-ends date d i text s output a
-calendar-ends date labels i text s output (dated.CalendarAnswers.labels_refused x o a) =
+pub calendar-ends : (day : CalendarDay) (labels : List ℕ) (i : Instance) (text : List ℕ) (s : ℕ) (output : List ℕ)
+    → CalendarAnswers day labels i text s output → (s ≢ 6) × (s ≢ 7)
+calendar-ends day labels i text s output (dated.CalendarAnswers.read d x o e a) =
+    clock-ends day d i text s output a
+calendar-ends day labels i text s output (dated.CalendarAnswers.labels_refused x o a) =
     line-ends i text a.line s output a.answers

@@ -6,9 +6,10 @@ ghost use Rattle.certificates.specs.declared.cert.Cert.{Cert as Certificate};
 ghost use Rattle.proof_pieces.specs.CertOf.{proof_of};
 ghost use Rattle.roster_model.specs.SoundInstance.{IsSoundInstance};
 ghost use Rattle.page_command.specs.Draw.{IsOldRoster, IsSoundShown};
-ghost use Rattle.page_command.specs.Shown.{IsShown, certified};
+ghost use Rattle.page_command.specs.Shown.{IsShown, Showing, certified};
 
 use crate::draw::shown;
+use crate::instead::line_instead;
 use crate::kind::Kind;
 use crate::roster::{ShownRoster, certified};
 use answers::Answer;
@@ -18,12 +19,8 @@ use page_labels::Labels;
 use roster_model::{Instance, Memory, Shift};
 use std::alloc::Global;
 
-/// Says what shows a roster under labels, beside an old one where there is one.
-///
-/// # Errors
-///
-/// `Memory` where memory runs out; there is no answer then.
-pub fn shown_answer(
+// Says what shows a roster under labels, beside an old one where there is one.
+fn drawn_answer(
     alloc: Global,
     kind: Kind,
     instance: &Instance,
@@ -39,6 +36,33 @@ pub fn shown_answer(
 {
     let output = shown(alloc, kind, instance, labels, roster, old)?;
     Ok(Answer { status: 0, output })
+}
+
+/// Says what shows a roster under labels, beside an old one where there is one, or why a name of the labels or the
+/// number of a shift keeps it from being shown.
+///
+/// # Errors
+///
+/// `Memory` where memory runs out; there is no answer then.
+pub fn shown_answer(
+    alloc: Global,
+    kind: Kind,
+    instance: &Instance,
+    labels: &Labels,
+    roster: &ShownRoster,
+    old: Option<&[Shift]>,
+) -> Result<Answer, Memory>
+    requires sound { IsSoundInstance instance.now }
+    requires roster { IsSoundShown instance.now roster.now }
+    requires old { IfSome (option_copied old) (IsOldRoster instance.now) }
+    ensures { IfOk result (λ a. Showing kind labels.now instance.now roster.now (option_copied old.entry)
+        a.status a.output) }
+{
+    let line = line_instead(alloc, kind, labels, roster)?;
+    match line {
+        Some(output) => Ok(Answer { status: 5, output }),
+        None => drawn_answer(alloc, kind, instance, labels, roster, old),
+    }
 }
 
 // Reads the certificate of a proof text that tells one.
@@ -72,8 +96,8 @@ pub fn accepted_answer(
     requires old { IfSome (option_copied old) (IsOldRoster instance.now) }
     requires accepted { (c : Certificate) × (proof_of instance.now text.now ≡ Is c)
         × Accepts instance.now c }
-    ensures { IfOk result (λ a. (a.status ≡ 0) × ((c : Certificate) → proof_of instance.now text.now ≡ Is c
-        → IsShown kind labels.now instance.now (certified c) (option_copied old.entry) a.output)) }
+    ensures { IfOk result (λ a. (c : Certificate) → proof_of instance.now text.now ≡ Is c
+        → Showing kind labels.now instance.now (certified c) (option_copied old.entry) a.status a.output) }
 {
     let cert = cert_of(alloc, instance, text)?;
     let roster = certified(cert);

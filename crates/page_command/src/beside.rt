@@ -2,10 +2,11 @@ ghost use Rattle.std.specs.Prelude.{[], ◌∷◌};
 ghost use Rattle.answers.specs.Reader.{IsReader};
 ghost use Rattle.page_command.specs.Check.{AnswersBeside, AnswersBesideRules, AnswersOldText};
 
+use crate::asking::ask_rules_text;
 use crate::check::answer_under;
 use crate::kind::Kind;
 use crate::limits::{MOST_LABELS, MOST_OLD};
-use answers::{Answer, MOST_PROOF, MOST_RULES, Question, ask_rules_text, fetched};
+use answers::{Answer, MOST_PROOF, MOST_RULES, Question, fetched};
 use roster_model::{Instance, Memory};
 use shelf::Shelf;
 use std::alloc::Global;
@@ -63,7 +64,7 @@ fn draw_by_labels<S: Shelf>(
         Ok(text) => {
             let old = text.as_slice();
             let question = Beside { labels, old };
-            ask_rules_text(alloc, shelf, rules, demand, proof, &question)
+            ask_rules_text(alloc, shelf, rules, demand, proof, labels, &question)
         }
         Err(status) => status,
     }

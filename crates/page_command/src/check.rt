@@ -11,12 +11,13 @@ ghost use Rattle.page_command.specs.Check.{
   OldAnswers,
 };
 
+use crate::asking::ask_rules_text;
 use crate::judgement::judgement;
 use crate::kind::Kind;
 use crate::limits::MOST_LABELS;
 use crate::old::{read_old, refused_old};
 use crate::refused::refused_labels;
-use answers::{Answer, MOST_PROOF, MOST_RULES, Question, ask, ask_rules_text, fetched};
+use answers::{Answer, MOST_PROOF, MOST_RULES, Question, ask, fetched};
 use page_labels::{Labels, no_labels, read_labels};
 use roster_model::{Instance, Memory};
 use shelf::Shelf;
@@ -181,7 +182,7 @@ fn draw_by_rules<S: Shelf>(
         Ok(text) => {
             let labels = text.as_slice();
             let question = Labelled { kind, labels };
-            ask_rules_text(alloc, shelf, rules, demand, proof, &question)
+            ask_rules_text(alloc, shelf, rules, demand, proof, labels, &question)
         }
         Err(status) => status,
     }

@@ -9,13 +9,14 @@ ghost use Rattle.page_command.specs.Dated.{
   ClockAnswers,
 };
 
+use crate::asking::ask_texts;
 use crate::judgement::judgement;
-use crate::kind::Kind;
+use crate::kind::{CalendarDay, DayEvents, Kind};
 use crate::limits::MOST_LABELS;
 use crate::refused::{line_answer, refused_labels};
-use answers::{Answer, MOST_DEMAND, MOST_PROOF, MOST_RULES, Question, ask_texts, fetched};
+use answers::{Answer, MOST_DEMAND, MOST_PROOF, MOST_RULES, Question, fetched};
 use page_labels::{Labels, read_labels};
-use roster_csv::{Date, Setting};
+use roster_csv::Setting;
 use roster_model::{Instance, Memory};
 use shelf::Shelf;
 use std::alloc::Global;
@@ -29,15 +30,20 @@ fn clock_answer(
     instance: &Instance,
     text: &[u8],
     labels: &Labels,
-    date: Date,
+    day: CalendarDay,
 ) -> Result<Answer, Memory>
     requires { IsSoundInstance instance.now }
-    ensures { IfOk result (λ a. ClockAnswers date labels.now instance.now text.now a.status a.output) }
+    ensures { IfOk result (λ a. ClockAnswers day labels.now instance.now text.now a.status a.output) }
 {
     match labels.clock {
         None => line_answer(alloc, instance, text, NO_CLOCK),
         Some(clock) => {
-            let kind = Kind::Calendar(Setting { date, clock });
+            let setting = Setting {
+                date: day.date,
+                clock,
+            };
+            let shift = day.shift;
+            let kind = Kind::Calendar(DayEvents { setting, shift });
             judgement(alloc, kind, instance, labels, None, text)
         }
     }
@@ -46,7 +52,7 @@ fn clock_answer(
 // The day of a calendar and its labels text.
 #[derive(Drop)]
 struct Dated<'a> {
-    date: Date,
+    day: CalendarDay,
     labels: &'a [u8],
 }
 
@@ -58,11 +64,11 @@ fn calendar_answer(
     dated: &Dated<'_>,
 ) -> Result<Answer, Memory>
     requires { IsSoundInstance instance.now }
-    ensures { IfOk result (λ a. CalendarAnswers dated.now.date dated.now.labels.now instance.now text.now
+    ensures { IfOk result (λ a. CalendarAnswers dated.now.day dated.now.labels.now instance.now text.now
         a.status a.output) }
 {
     match read_labels(alloc, instance, dated.labels) {
-        Ok(labels) => clock_answer(alloc, instance, text, &labels, dated.date),
+        Ok(labels) => clock_answer(alloc, instance, text, &labels, dated.day),
         Err(fault) => refused_labels(alloc, instance, text, dated.labels, fault),
     }
 }
@@ -72,13 +78,13 @@ impl<'a> Question for Dated<'a> {
     ghost use Rattle.page_command.specs.Statuses.{calendar-ends};
     ghost use Rattle.page_command.specs.DatedFronts.{calendar-fronts};
 
-    ghost answers = { λ q. CalendarAnswers q.date q.labels.now };
+    ghost answers = { λ q. CalendarAnswers q.day q.labels.now };
 
     ghost limit = { λ _. 1073741824 };
 
-    ghost ends = { λ q. calendar-ends q.date q.labels.now };
+    ghost ends = { λ q. calendar-ends q.day q.labels.now };
 
-    ghost fronts = { λ q. calendar-fronts q.date q.labels.now };
+    ghost fronts = { λ q. calendar-fronts q.day q.labels.now };
 
     // A proof text has at most so many bytes, and a report has no more.
     fn most(&self) -> usize {
@@ -95,20 +101,20 @@ impl<'a> Question for Dated<'a> {
 fn draw_dated_texts<S: Shelf>(
     alloc: Global,
     shelf: &mut S,
-    date: Date,
+    day: CalendarDay,
     rules: &[u8],
     labels: &[u8],
     demand: &str,
     proof: &str,
 ) -> u8
-    ensures { IsReader (AnswersDatedTexts date (S.told shelf.old).held rules.now labels.now demand.now proof.now)
+    ensures { IsReader (AnswersDatedTexts day (S.told shelf.old).held rules.now labels.now demand.now proof.now)
         (demand.now ∷ proof.now ∷ []) (S.told shelf.old) (S.told shelf.new) result }
 {
     match fetched(alloc, shelf, demand, MOST_DEMAND) {
         Ok(text) => {
             let demand = text.as_slice();
-            let dated = Dated { date, labels };
-            ask_texts(alloc, shelf, rules, demand, proof, &dated)
+            let dated = Dated { day, labels };
+            ask_texts(alloc, shelf, rules, demand, proof, labels, &dated)
         }
         Err(status) => status,
     }
@@ -118,17 +124,17 @@ fn draw_dated_texts<S: Shelf>(
 fn draw_dated_labels<S: Shelf>(
     alloc: Global,
     shelf: &mut S,
-    date: Date,
+    day: CalendarDay,
     rules: &[u8],
     demand: &str,
     proof: &str,
     labels: &str,
 ) -> u8
-    ensures { IsReader (AnswersDatedLabels date (S.told shelf.old).held rules.now demand.now proof.now labels.now)
+    ensures { IsReader (AnswersDatedLabels day (S.told shelf.old).held rules.now demand.now proof.now labels.now)
         (labels.now ∷ demand.now ∷ proof.now ∷ []) (S.told shelf.old) (S.told shelf.new) result }
 {
     match fetched(alloc, shelf, labels, MOST_LABELS) {
-        Ok(text) => draw_dated_texts(alloc, shelf, date, rules, text.as_slice(), demand, proof),
+        Ok(text) => draw_dated_texts(alloc, shelf, day, rules, text.as_slice(), demand, proof),
         Err(status) => status,
     }
 }
@@ -140,17 +146,17 @@ fn draw_dated_labels<S: Shelf>(
 pub fn draw_dated<S: Shelf>(
     alloc: Global,
     shelf: &mut S,
-    date: Date,
+    day: CalendarDay,
     rules: &str,
     demand: &str,
     proof: &str,
     labels: &str,
 ) -> u8
-    ensures { IsReader (AnswersDated date (S.told shelf.old).held rules.now demand.now proof.now labels.now)
+    ensures { IsReader (AnswersDated day (S.told shelf.old).held rules.now demand.now proof.now labels.now)
         (rules.now ∷ labels.now ∷ demand.now ∷ proof.now ∷ []) (S.told shelf.old) (S.told shelf.new) result }
 {
     match fetched(alloc, shelf, rules, MOST_RULES) {
-        Ok(text) => draw_dated_labels(alloc, shelf, date, text.as_slice(), demand, proof, labels),
+        Ok(text) => draw_dated_labels(alloc, shelf, day, text.as_slice(), demand, proof, labels),
         Err(status) => status,
     }
 }

@@ -6,7 +6,18 @@ ghost use Rattle.roster_model.specs.SoundInstance.{IsSoundInstance};
 ghost use Rattle.roster_report.specs.Reports.{HasSoundShifts};
 ghost use Rattle.page_command.specs.declared.roster.ShownRoster.{ShownRoster as AnyRoster};
 ghost use Rattle.page_command.specs.Shown.{IsShown};
-ghost use Rattle.page_command.specs.Draw.{IsContent, IsContentBeside, IsOldRoster, IsPage, IsSoundShown, columns_of, figures_of, words_of};
+ghost use Rattle.roster_csv.specs.Coverages as sheets;
+ghost use Rattle.page_command.specs.Draw.{
+  IsContent,
+  IsContentBeside,
+  IsOldRoster,
+  IsPage,
+  IsSoundShown,
+  columns_of,
+  figures_of,
+  money_of,
+  words_of,
+};
 ghost use Rattle.roster_tables.specs.AxisTimes.{axis_times};
 
 use crate::compare::{Comparison, compared};
@@ -14,9 +25,10 @@ use crate::derived::derivations;
 use crate::kind::Kind;
 use crate::roster::ShownRoster;
 use crate::rows::{copied, rows_of};
-use page_labels::{Labels, code_words};
+use page_labels::{Labels, code_words, decimals_of};
+use page_parts::Money;
 use page_text::{CellCover, Content, Figures, add_columns, write_page};
-use roster_csv::{calendar_of, table_of};
+use roster_csv::{calendar_of, coverage_of, table_of};
 use roster_model::{CodeDef, Grammar, Instance, List, Memory, Shift};
 use roster_report::paid;
 use roster_tables::{axis_times, tables_of};
@@ -96,8 +108,18 @@ fn words_of(alloc: Global, labels: &Labels, codes: &[CodeDef]) -> Result<List<Li
 struct Labelled {
     title: List<u8>,
     words: List<List<u8>>,
-    money: List<u8>,
+    money: Money,
     times: List<List<u8>>,
+}
+
+// Returns what amounts are counted in, and their decimals.
+fn money_of(alloc: Global, labels: &Labels) -> Result<Money, Memory>
+    ensures { IfOk result (λ money. money ≡ money_of labels.now) }
+{
+    Ok(Money {
+        words: copied(alloc, labels.money.as_slice())?,
+        decimals: decimals_of(labels),
+    })
 }
 
 // Returns what a page shows of the labels alone.
@@ -105,13 +127,13 @@ fn labelled_by(alloc: Global, labels: &Labels, grammar: &Grammar) -> Result<Labe
     requires { length grammar.now.codes ≤ 32 }
     ensures title { IfOk result (λ l. l.title ≡ labels.now.title) }
     ensures words { IfOk result (λ l. l.words ≡ words_of labels.now grammar.now.codes) }
-    ensures money { IfOk result (λ l. l.money ≡ labels.now.money) }
+    ensures money { IfOk result (λ l. l.money ≡ money_of labels.now) }
     ensures times { IfOk result (λ l. l.times ≡ axis_times labels.now.clock grammar.now.periods) }
 {
     Ok(Labelled {
         title: copied(alloc, labels.title.as_slice())?,
         words: words_of(alloc, labels, grammar.codes.as_slice())?,
-        money: copied(alloc, labels.money.as_slice())?,
+        money: money_of(alloc, labels)?,
         times: axis_times(alloc, labels.clock, grammar.periods)?,
     })
 }
@@ -148,13 +170,16 @@ fn content_beside(
         title: labelled.title,
         words: labelled.words,
         money: labelled.money,
+        off: labels.off,
         times: labelled.times,
+        stated: roster.is_stated,
         figures: figures_of(instance, roster),
         changes: comparison.changes,
         rows,
         derivations,
         columns,
         tables,
+        read: List::new(alloc),
     })
 }
 
@@ -199,6 +224,22 @@ fn drawn(
     page
 }
 
+// Returns the table of how a roster covers each cell, without records where there is no roster.
+fn covered(
+    alloc: Global,
+    instance: &Instance,
+    labels: &Labels,
+    roster: &ShownRoster,
+) -> Result<List<u8>, Memory>
+    requires sound { IsSoundInstance instance.now }
+    requires shifts { HasSoundShifts instance.now roster.now.shifts }
+    ensures { IfOk result (λ text. text ≡ sheets.coverage_of instance.now labels.now
+        (columns_of instance.now roster.now roster.now.cost)) }
+{
+    let columns = columns_of(alloc, instance, roster)?;
+    coverage_of(alloc, instance, labels, columns.as_slice())
+}
+
 /// Returns what shows a roster under labels. Only a page tells what differs from an old roster.
 ///
 /// # Errors
@@ -220,8 +261,17 @@ pub fn shown(
     match kind {
         Kind::Page => drawn(alloc, instance, labels, roster, old),
         Kind::Table => table_of(alloc, instance, labels, roster.shifts.as_slice()),
-        Kind::Calendar(setting) => {
-            calendar_of(alloc, instance, labels, &setting, roster.shifts.as_slice())
+        Kind::Coverage => covered(alloc, instance, labels, roster),
+        Kind::Calendar(events) => {
+            let shifts = roster.shifts.as_slice();
+            calendar_of(
+                alloc,
+                instance,
+                labels,
+                &events.setting,
+                events.shift,
+                shifts,
+            )
         }
     }
 }

@@ -1,9 +1,10 @@
 ghost use Rattle.std.specs.Prelude.{◌≡◌, map, string_bytes};
-ghost use Rattle.page_command.specs.Run.{form_of, form_on, kind_of, labelled_form, last_form, shown_form};
+ghost use Rattle.page_command.specs.Run.{form_for, form_of, form_on, kind_of, labelled_form, last_form, shift_form, shift_of, shown_form};
 ghost use Rattle.page_command.specs.Asked.{asked};
 
-use crate::kind::{Kind, kind_of};
+use crate::kind::{CalendarDay, Kind, kind_of};
 use roster_csv::{Date, date_of};
+use text_lines::read_within;
 
 /// What the words of the command line ask for.
 #[derive(Clone, Copy, Drop)]
@@ -33,7 +34,7 @@ pub enum Form<'a> {
     },
     /// The calendar on a day, under the labels text under a name.
     Dated {
-        date: Date,
+        day: CalendarDay,
         rules: &'a str,
         demand: &'a str,
         proof: &'a str,
@@ -80,20 +81,21 @@ fn labelled_form<'a>(
     }
 }
 
-// Returns the form of a calendar, where there is a day.
+// Returns the form of a calendar, where there is a day, of all shifts or of the one of a number.
 fn form_on<'a>(
     date: Option<Date>,
+    shift: Option<u32>,
     rules: &'a str,
     demand: &'a str,
     proof: &'a str,
     labels: &'a str,
 ) -> Form<'a>
-    ensures { asked result ≡ form_on date rules.now demand.now proof.now labels.now }
+    ensures { asked result ≡ form_on date shift rules.now demand.now proof.now labels.now }
 {
     match date {
         None => Form::None,
         Some(date) => Form::Dated {
-            date,
+            day: CalendarDay { date, shift },
             rules,
             demand,
             proof,
@@ -124,7 +126,54 @@ fn last_form<'a>(
         };
     }
     if word == "calendar" {
-        return form_on(date_of(last.as_bytes()), rules, demand, proof, labels);
+        return form_on(date_of(last.as_bytes()), None, rules, demand, proof, labels);
+    }
+    Form::None
+}
+
+// Returns the number of a shift that a word says, 1 to 64.
+fn shift_of(word: &str) -> Option<u32>
+    ensures { result ≡ shift_of word.now }
+{
+    match read_within(1, 64, (), (), word.as_bytes()) {
+        Ok(number) => Some(number as u32),
+        Err(()) => None,
+    }
+}
+
+// Returns the form of a calendar of one shift, where there is a number and a day.
+fn form_for<'a>(
+    shift: Option<u32>,
+    date: Option<Date>,
+    rules: &'a str,
+    demand: &'a str,
+    proof: &'a str,
+    labels: &'a str,
+) -> Form<'a>
+    ensures { asked result ≡ form_for shift date rules.now demand.now proof.now labels.now }
+{
+    match shift {
+        None => Form::None,
+        Some(_) => form_on(date, shift, rules, demand, proof, labels),
+    }
+}
+
+// Reads a word, the names of three texts and of a labels text, a day and the number of a shift.
+#[tactic(auto, unfolding(crate::specs::Run::shift_form))]
+fn shift_form<'a>(
+    word: &str,
+    rules: &'a str,
+    demand: &'a str,
+    proof: &'a str,
+    labels: &'a str,
+    day: &str,
+    number: &str,
+) -> Form<'a>
+    ensures { asked result ≡ shift_form word.now rules.now demand.now proof.now labels.now day.now number.now }
+{
+    if word == "calendar" {
+        let date = date_of(day.as_bytes());
+        return form_for(shift_of(number), date, rules, demand, proof, labels);
     }
     Form::None
 }
@@ -154,6 +203,15 @@ pub fn form_of(words: &[String]) -> Form<'_>
             proof.as_str(),
             labels.as_str(),
             last.as_str(),
+        ),
+        [word, rules, demand, proof, labels, day, number] => shift_form(
+            word.as_str(),
+            rules.as_str(),
+            demand.as_str(),
+            proof.as_str(),
+            labels.as_str(),
+            day.as_str(),
+            number.as_str(),
         ),
         _ => Form::None,
     }

@@ -3,13 +3,16 @@
 #![tactic(auto)]
 
 mod accepted;
+mod asking;
 mod beside;
 mod check;
 mod compare;
 mod dated;
 mod derived;
 mod draw;
+mod events_note;
 mod form;
+mod instead;
 mod judgement;
 mod kind;
 mod laws;

@@ -14,6 +14,8 @@ pub struct ShownRoster {
     pub cost: Option<u64>,
     /// No allowed roster costs less; 0 proves nothing, and none says that no roster is allowed.
     pub bound: Option<u64>,
+    /// Whether a report states the roster, and not a certificate.
+    pub is_stated: bool,
 }
 
 /// Returns the roster of a certificate, and its bound.
@@ -24,6 +26,7 @@ pub fn certified(cert: Cert) -> ShownRoster
         shifts: cert.shifts,
         cost: cert.cost,
         bound: cert.bound,
+        is_stated: false,
     }
 }
 
@@ -35,5 +38,6 @@ pub fn stated(value: Valued) -> ShownRoster
         shifts: value.shifts,
         cost: Some(value.cost),
         bound: Some(0),
+        is_stated: true,
     }
 }

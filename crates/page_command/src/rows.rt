@@ -6,13 +6,13 @@ use crate::compare::Comparison;
 use page_labels::Labels;
 use page_text::Row;
 use roster_model::{Instance, List, Memory, Shift};
-use roster_tables::group_called;
+use roster_tables::row_called;
 use shift_figures::drawn_order;
 use std::alloc::Global;
 use text_lines::put;
 
-/// Up to so many shifts have a row each; where there are more, equal ones have one row, unless an old roster stands
-/// beside them.
+/// Up to so many shifts have a row each; where there are more, equal ones have one row, unless one is named or an old
+/// roster stands beside them.
 const MOST_OWN_ROWS: usize = 40;
 
 // Whether two employees of one group have one word.
@@ -38,18 +38,18 @@ fn has_same(shifts: &[Shift], shift: &Shift) -> bool
 }
 
 // Whether equal shifts have one row.
-fn are_many(comparison: &Comparison, shifts: &[Shift]) -> bool
-    ensures { result ≡ are_many comparison.now shifts.now }
+fn are_many(labels: &Labels, comparison: &Comparison, shifts: &[Shift]) -> bool
+    ensures { result ≡ are_many labels.now comparison.now shifts.now }
 {
-    comparison.changes.is_none() && shifts.len() > MOST_OWN_ROWS
+    comparison.changes.is_none() && !(labels.shifts.len() > 0) && shifts.len() > MOST_OWN_ROWS
 }
 
 // How many employees a row stands for.
-fn count_of(comparison: &Comparison, shifts: &[Shift], shift: &Shift) -> u32
+fn count_of(labels: &Labels, comparison: &Comparison, shifts: &[Shift], shift: &Shift) -> u32
     requires { length shifts.now ≤ 64 }
-    ensures { result ≡ count_of comparison.now shifts.now shift.now }
+    ensures { result ≡ count_of labels.now comparison.now shifts.now shift.now }
 {
-    if are_many(comparison, shifts) {
+    if are_many(labels, comparison, shifts) {
         count_same(shifts, shift) as u32
     } else {
         1
@@ -106,20 +106,26 @@ fn row_of(
     Ok(Row {
         number: place as u32 + 1,
         group: shift.group,
-        name: group_called(alloc, instance, labels, shift.group)?,
+        name: row_called(alloc, instance, labels, place as u32 + 1, shift.group)?,
         word: copied(alloc, shift.word.as_slice())?,
         price: shift.price,
-        count: count_of(comparison, shifts, shift),
+        count: count_of(labels, comparison, shifts, shift),
         differs: marks_at(alloc, comparison.marks.as_slice(), place)?,
     })
 }
 
 // Whether a shift has the row of one before it.
-fn has_row(comparison: &Comparison, shifts: &[Shift], place: usize, shift: &Shift) -> bool
+fn has_row(
+    labels: &Labels,
+    comparison: &Comparison,
+    shifts: &[Shift],
+    place: usize,
+    shift: &Shift,
+) -> bool
     requires { place ≤ length shifts.now }
-    ensures { result ≡ has_row comparison.now shifts.now place shift.now }
+    ensures { result ≡ has_row labels.now comparison.now shifts.now place shift.now }
 {
-    are_many(comparison, shifts) && has_same(&shifts[..place], shift)
+    are_many(labels, comparison, shifts) && has_same(&shifts[..place], shift)
 }
 
 // Appends the row of a shift behind so many, if it has one of its own.
@@ -140,7 +146,7 @@ fn add_own_row(
         ≡ rows.old ++ own_row instance.now labels.now comparison.now shifts.now place shift.now) }
     ensures few { OnOk result (length rows.new ≤ length rows.old + 1) }
 {
-    if has_row(comparison, shifts, place, shift) {
+    if has_row(labels, comparison, shifts, place, shift) {
         return Ok(());
     }
     let row = row_of(alloc, instance, labels, comparison, shifts, place, shift)?;
@@ -192,8 +198,8 @@ fn rows_in(
     Ok(rows)
 }
 
-/// Returns a row for each shift, or, where there are more than 40 and no old roster, one for all that are equal: by
-/// group, first period of work, last period of work and number, those without work last in their group.
+/// Returns a row for each shift, or, where there are more than 40, none has a name and there is no old roster, one for
+/// all that are equal: by group, first period of work, last period of work and number, those without work last in their group.
 ///
 /// # Errors
 ///

@@ -8,6 +8,8 @@ mod refused_tests;
 #[cfg(test)]
 mod report_tests;
 #[cfg(test)]
+mod sheet_tests;
+#[cfg(test)]
 mod texts;
 #[cfg(test)]
 mod transcripts;

@@ -212,17 +212,17 @@ fn equal_shifts_have_one_row_where_there_are_many(rt: HostRuntime) -> Result<(),
 const SHEETS: &str = "
 ~ table g1 two best called
 0
-shift,group,code,name,first,last,begin,end,price
-1,,.,,1,1,7:00,7:30,5
-1,,a,\"'=desk, phone\",2,4,7:30,9:00,
-2,,a,\"'=desk, phone\",1,3,7:00,8:30,5
-2,,.,,4,4,8:30,9:00,
+shift,group,code,name,first,last,begin,end,price,employee,amount
+1,,.,,1,1,7:00,7:30,5,,5
+1,,a,\"'=desk, phone\",2,4,7:30,9:00,,,
+2,,a,\"'=desk, phone\",1,3,7:00,8:30,5,,5
+2,,.,,4,4,8:30,9:00,,,
 ~ table halves groups staff team
 0
-shift,group,code,name,first,last,begin,end,price
-1,full time,a,,1,2,,,3
-2,H,a,,1,1,,,1
-2,H,.,,2,2,,,
+shift,group,code,name,first,last,begin,end,price,employee,amount
+1,full time,a,,1,2,,,3,,3
+2,H,a,,1,1,,,1,,1
+2,H,.,,2,2,,,,,
 ~ calendar g1 two best called 2026-02-28
 0
 BEGIN:VCALENDAR\r

@@ -6,8 +6,10 @@ use std::test::Fail;
 /// Words, and behind `>` the names of their calls before the last one, which says the answer.
 const CALLS: &str = "page g1 two best > g1 two best
 table g1 two best called > g1 called two best
+coverage g1 two best called > g1 called two best
 page g1 two best called best > g1 called best two best
 calendar g1 two best called 2026-02-28 > g1 called two best
+calendar g1 two best called 2026-02-28 2 > g1 called two best
 ";
 
 /// Whether a run whose call of this number and name fails ends there, with this said.
@@ -74,11 +76,11 @@ no 8 bound too high: said 11 shown 10
 ~ check g1 two best
 2
 words: page RULES DEMAND PROOF [LABELS [OLD]] | table RULES DEMAND PROOF [LABELS] \
-| calendar RULES DEMAND PROOF LABELS DATE
+| coverage RULES DEMAND PROOF [LABELS] | calendar RULES DEMAND PROOF LABELS DATE [SHIFT]
 ~ calendar g1 two best called 2026-02-29
 2
 words: page RULES DEMAND PROOF [LABELS [OLD]] | table RULES DEMAND PROOF [LABELS] \
-| calendar RULES DEMAND PROOF LABELS DATE
+| coverage RULES DEMAND PROOF [LABELS] | calendar RULES DEMAND PROOF LABELS DATE [SHIFT]
 ~ page cycle absent absent
 3
 rules: line 3: a name leads back to itself by one-symbol rules
@@ -108,9 +110,10 @@ fn refused_texts_have_their_lines(rt: HostRuntime) -> Result<(), Fail> {
 
 /// What is noted to words of no form.
 const FORM: &str = "RULES DEMAND PROOF LABELS OLD are the names of texts; \
-the page of the certificate or the report PROOF, or the table of its roster, is printed, \
+the page of the certificate or the report PROOF, or the table of its roster, or of how it covers each need, is printed, \
 under the labels LABELS where they are named, and beside the roster of the certificate or the report OLD; \
-the calendar of its roster on the day DATE, as 2026-01-31, is printed under labels that tell a clock\n";
+the calendar of its roster on the day DATE, as 2026-01-31, or of its shift of the number SHIFT alone, \
+is printed under labels that tell a clock\n";
 
 /// Whether no words are told the form.
 fn notes_form(alloc: Global) -> Result<bool, Fail> {

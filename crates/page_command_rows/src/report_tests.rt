@@ -5,11 +5,11 @@ use std::test::Fail;
 const REPORTS: &str = "
 ~ table g1 two report
 0
-shift,group,code,name,first,last,begin,end,price
-1,,.,,1,1,,,5
-1,,a,,2,4,,,
-2,,a,,1,3,,,5
-2,,.,,4,4,,,
+shift,group,code,name,first,last,begin,end,price,employee,amount
+1,,.,,1,1,,,5,,5
+1,,a,,2,4,,,,,
+2,,a,,1,3,,,5,,5
+2,,.,,4,4,,,,,
 ~ page g1 two report
 0 ..
 <p>Nothing is proved of the cost.</p>

@@ -41,6 +41,18 @@ periods 1
 work a
 start S
 rule S 1 = 'a'
+@ ab
+periods 1
+work a b
+start S
+rule S 2 = 'a'
+rule S 3 = 'b'
+@ both
+heads 0 3
+need b 5 1 1
+need a 4 2 1
+least a 1
+most b 1
 @ pair
 periods 1
 work a
@@ -63,6 +75,13 @@ rule S 0 = H
 rule F 3 = 'a' 'a'
 rule H 1 = 'a' '.'
 rule H 1 = '.' 'a'
+@ split
+periods 3
+work a
+idle . p
+start S
+rule S 1 = 'a' '.' 'a'
+rule S 1 = 'p' 'a' '.'
 @ cycle
 periods 4
 start A
@@ -71,11 +90,19 @@ rule B 0 = A
 @ two
 heads 0 2
 need a 10 3 1 2 2 1
+@ tight
+heads 0 2
+need a 10 3 0 2 2 2
+least a 0 1 0 0
+most a 64 2 64 1
 @ noted
 # the second hour is short
 heads 0 2
 
 need a 10 3 1 2 2 1
+@ one
+heads 0 1
+need a 1 1 1 1 1
 @ centre
 heads 0 1
 need a 30 1 0 0 0 0 1 1 2 2 3 3 2 2 1 1 2 2 3 3 2 2 1 1 0 0
@@ -164,6 +191,38 @@ money E&R
 @ called
 clock 7:00 30
 code a =desk, phone
+@ fine
+shift 2 aaa. =Ann, B.
+clock 7:00 30
+code a Gespr\u{e4}ch
+shift 1 .aaa Zo\u{eb}
+decimals 2
+@ staffed
+shift 1 F aa Ann
+shift 2 H a. Bo
+@ regrouped
+shift 1 H aa Ann
+@ swapped
+clock 7:00 30
+shift 2 .aaa Ann
+@ third
+clock 7:00 30
+shift 3 aaa. Ann
+@ third_twice
+clock 7:00 30
+shift 3 aaa. Ann
+title a
+title b
+@ long_day
+clock 0:00 480
+paid p yes
+@ long_off
+clock 0:00 480
+paid p yes
+off .
+@ stray
+clock 7:00 30
+shift 7 a Ann
 @ team
 group F full time
 @ report
@@ -180,6 +239,16 @@ over a 1 1 1 1
 report 2
 shift F aa
 shift H a.
+@ night
+report 1
+shift a.a
+@ early
+report 1
+shift pa.
+@ pairs
+report 1
+shift a
+shift a
 @ no_roster
 report 1
 result none

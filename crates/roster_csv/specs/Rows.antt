@@ -1,27 +1,17 @@
 -- The table of a roster, as comma-separated values.
-use Rattle.std.specs.Prelude.{ℕ, ◌+◌, ◌-◌, ◌||◌, Bool, Option, None, Some, List, [], ◌∷◌, ◌++◌, codes, nat_eq, if◌then◌else◌}
+use Rattle.std.specs.Prelude.{ℕ, ◌+◌, ◌-◌, Option, None, Some, List, [], ◌∷◌, ◌++◌, codes, nat_eq, if◌then◌else◌}
 use Rattle.std.specs.Fmt.{decimal}
 use Rattle.std.specs.List.{flat_map}
 use Rattle.csv.specs.Writing.{default_writer, row_text}
 use Rattle.roster_model.specs.declared.grammar.CodeDef.{CodeDef}
 use Rattle.roster_model.specs.declared.instance.Instance.{Instance}
 use Rattle.roster_model.specs.declared.instance.Shift.{Shift}
-use Rattle.page_labels.specs.Clocks.{time_text}
-use Rattle.page_labels.specs.Labels.{code_words}
-use Rattle.page_labels.specs.declared.clock.Clock.{Clock}
+use Rattle.page_labels.specs.Labels.{code_words, decimals_of, shift_name}
 use Rattle.page_labels.specs.declared.labels.Labels.{Labels}
 use Rattle.roster_tables.specs.Called.{group_called}
 use Rattle.roster_csv.specs.declared.piece.Piece.{Piece}
 use Rattle.roster_csv.specs.Pieces.{pieces_of}
-
--- a spreadsheet reads what begins with such a byte as a formula
-abbrev pub is_formula_byte : ℕ → Bool
-is_formula_byte b = nat_eq b 61 || nat_eq b 43 || nat_eq b 45 || nat_eq b 64
-
--- an apostrophe before what would be read as a formula
-unfoldable pub guarded : List ℕ → List ℕ
-guarded [] = []
-guarded (b ∷ bs) = if is_formula_byte b then 39 ∷ b ∷ bs else b ∷ bs
+use Rattle.roster_csv.specs.Sheets.{amount_text, guarded, marked, time_of}
 
 -- the place of a further code, where it has the byte
 unfoldable pub with_place : ℕ → Option ℕ → ℕ → CodeDef → Option ℕ
@@ -43,27 +33,27 @@ name_at d (Some place) = code_words d.codes place
 abbrev pub name_of : List CodeDef → Labels → ℕ → List ℕ
 name_of cs d byte = name_at d (place_of cs byte)
 
--- the time behind so many periods, or nothing without a clock
-abbrev pub time_of : Option Clock → ℕ → List ℕ
-time_of None passed = []
-time_of (Some c) passed = time_text c passed
-
 -- the price of a shift, in its first record
 unfoldable pub price_of : Shift → Piece → List ℕ
 price_of s p = if nat_eq p.first 1 then decimal s.price else []
+
+-- the same as an amount with so many decimals
+unfoldable pub amount_of : ℕ → Shift → Piece → List ℕ
+amount_of decimals s p = if nat_eq p.first 1 then amount_text decimals s.price else []
 
 -- the fields of the record of a stretch, of the shift behind so many
 abbrev pub fields_of : Instance → Labels → ℕ → Shift → Piece → List (List ℕ)
 fields_of i d k s p =
     decimal (k + 1) ∷ guarded (group_called i d s.group) ∷ guarded (p.byte ∷ [])
     ∷ guarded (name_of i.grammar.codes d p.byte) ∷ decimal p.first ∷ decimal p.last
-    ∷ time_of d.clock (p.first - 1) ∷ time_of d.clock p.last ∷ price_of s p ∷ []
+    ∷ time_of d.clock (p.first - 1) ∷ time_of d.clock p.last ∷ price_of s p ∷ guarded (shift_name d.shifts (k + 1))
+    ∷ amount_of (decimals_of d) s p ∷ []
 
 -- what stands above the records
 abbrev pub head_fields : List (List ℕ)
 head_fields =
     codes "shift" ∷ codes "group" ∷ codes "code" ∷ codes "name" ∷ codes "first" ∷ codes "last" ∷ codes "begin"
-    ∷ codes "end" ∷ codes "price" ∷ []
+    ∷ codes "end" ∷ codes "price" ∷ codes "employee" ∷ codes "amount" ∷ []
 
 -- the record of a stretch
 abbrev pub piece_row : Instance → Labels → ℕ → Shift → Piece → List ℕ
@@ -80,4 +70,4 @@ rows_from i d k (s ∷ ss) = shift_rows i d k s ++ rows_from i d (k + 1) ss
 
 -- a record for each greatest stretch of one code, by the numbers of the shifts
 abbrev pub table_of : Instance → Labels → List Shift → List ℕ
-table_of i d shifts = row_text default_writer head_fields ++ rows_from i d 0 shifts
+table_of i d shifts = marked (row_text default_writer head_fields ++ rows_from i d 0 shifts)

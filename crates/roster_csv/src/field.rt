@@ -1,9 +1,11 @@
 ghost use Rattle.std.specs.Prelude.{◌≡◌, ◌-◌, ◌++◌, [], ◌∷◌, ◌≤◌, IfOk, OnOk, length, if◌then◌else◌};
 ghost use Rattle.std.specs.Fmt.{decimal};
-ghost use Rattle.roster_csv.specs.Rows.{guarded, is_formula_byte, name_of, place_of, price_of, time_of, with_place};
+ghost use Rattle.roster_csv.specs.Rows.{amount_of, name_of, place_of, price_of, with_place};
+ghost use Rattle.roster_csv.specs.Sheets.{amount_text, guarded, is_formula_byte, letter_at, time_of};
 
 use crate::piece::Piece;
 use page_labels::{Clock, Labels, code_words, put_time};
+use page_parts::units;
 use roster_model::{CodeDef, List, Memory, Shift};
 use std::alloc::Global;
 use text_lines::{put, write_number};
@@ -27,7 +29,7 @@ fn guard(out: &mut List<u8>, first: u8) -> Result<(), Memory>
 }
 
 // Returns a text, with an apostrophe before it where it would be read as a formula.
-#[tactic(auto, unfolding(crate::specs::Rows::guarded))]
+#[tactic(auto, unfolding(crate::specs::Sheets::guarded))]
 fn guarded(alloc: Global, text: &[u8]) -> Result<List<u8>, Memory>
     ensures { IfOk result (λ field. field ≡ guarded text.now) }
 {
@@ -57,6 +59,25 @@ pub(crate) fn add_text(
     fields.push(guarded(alloc, text)?)
 }
 
+/// Appends a field of the letter of the code at a place.
+///
+/// # Errors
+///
+/// `Memory` where memory runs out; the fields are as before then.
+pub(crate) fn add_letter(
+    alloc: Global,
+    fields: &mut List<List<u8>>,
+    codes: &[CodeDef],
+    place: u8,
+) -> Result<(), Memory>
+    ensures { OnOk result (fields.new ≡ fields.old ++ guarded (letter_at codes.now place) ∷ []) }
+{
+    match codes.get(place as usize) {
+        None => add_text(alloc, fields, b""),
+        Some(code) => add_text(alloc, fields, &[code.byte]),
+    }
+}
+
 // Returns the digits of a number.
 fn digits(alloc: Global, value: u64) -> Result<List<u8>, Memory>
     ensures { IfOk result (λ field. field ≡ decimal value) }
@@ -79,6 +100,31 @@ pub(crate) fn add_number(
     ensures { OnOk result (fields.new ≡ fields.old ++ decimal value ∷ []) }
 {
     fields.push(digits(alloc, value)?)
+}
+
+// Returns an amount with so many decimals.
+fn amount_text(alloc: Global, decimals: u8, value: u64) -> Result<List<u8>, Memory>
+    ensures { IfOk result (λ field. field ≡ amount_text decimals value) }
+{
+    let mut field = List::new(alloc);
+    units(&mut field, decimals, value)?;
+    Ok(field)
+}
+
+/// Appends a field of an amount with so many decimals.
+///
+/// # Errors
+///
+/// `Memory` where memory runs out; the fields are as before then.
+pub(crate) fn add_amount(
+    alloc: Global,
+    fields: &mut List<List<u8>>,
+    decimals: u8,
+    value: u64,
+) -> Result<(), Memory>
+    ensures { OnOk result (fields.new ≡ fields.old ++ amount_text decimals value ∷ []) }
+{
+    fields.push(amount_text(alloc, decimals, value)?)
 }
 
 // Returns the time behind so many periods, or nothing without a clock.
@@ -171,4 +217,32 @@ pub(crate) fn add_price(
     ensures { OnOk result (fields.new ≡ fields.old ++ price_of shift.now piece ∷ []) }
 {
     fields.push(price_of(alloc, shift, piece)?)
+}
+
+// Returns the price of a shift as an amount with so many decimals, in its first record.
+#[tactic(auto, unfolding(crate::specs::Rows::amount_of))]
+fn amount_of(alloc: Global, decimals: u8, shift: &Shift, piece: Piece) -> Result<List<u8>, Memory>
+    ensures { IfOk result (λ field. field ≡ amount_of decimals shift.now piece) }
+{
+    if piece.first != 1 {
+        return Ok(List::new(alloc));
+    }
+    amount_text(alloc, decimals, shift.price)
+}
+
+/// Appends a field of the price of a shift as an amount with so many decimals, empty but in its first record.
+///
+/// # Errors
+///
+/// `Memory` where memory runs out; the fields are as before then.
+pub(crate) fn add_price_amount(
+    alloc: Global,
+    fields: &mut List<List<u8>>,
+    decimals: u8,
+    shift: &Shift,
+    piece: Piece,
+) -> Result<(), Memory>
+    ensures { OnOk result (fields.new ≡ fields.old ++ amount_of decimals shift.now piece ∷ []) }
+{
+    fields.push(amount_of(alloc, decimals, shift, piece)?)
 }

@@ -2,13 +2,16 @@
 //! code; and as an iCalendar text, which calendar programs read.
 #![tactic(auto)]
 
+mod coverage;
 mod field;
 mod laws;
 mod piece;
 mod roster_calendar;
 mod row;
+mod sheet;
 mod table;
 
+pub use coverage::coverage_of;
 pub use field::name_of;
 pub use laws::pieces_give_word_back;
 pub use piece::{Piece, pieces_of};

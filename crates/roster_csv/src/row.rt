@@ -31,3 +31,30 @@ pub(crate) fn add_row(alloc: Global, out: &mut List<u8>, fields: &[&[u8]]) -> Re
         Err(_) => Err(Memory),
     }
 }
+
+// Returns the fields as slices.
+fn views<'a>(alloc: Global, fields: &'a [List<u8>]) -> Result<List<&'a [u8]>, Memory>
+    ensures { IfOk result (λ v. map (λ f. f.now) v ≡ fields.now) }
+{
+    let mut slices = List::new(alloc);
+    for field in fields {
+        slices.push(field.as_slice())?;
+    }
+    Ok(slices)
+}
+
+/// Appends the record of these fields, which are owned.
+///
+/// # Errors
+///
+/// `Memory` where memory runs out; a part may stand in `out` then.
+pub(crate) fn add_record(
+    alloc: Global,
+    out: &mut List<u8>,
+    fields: &[List<u8>],
+) -> Result<(), Memory>
+    ensures { OnOk result (out.new ≡ out.old ++ row_text default_writer fields.now) }
+{
+    let slices = views(alloc, fields)?;
+    add_row(alloc, out, slices.as_slice())
+}

@@ -1,20 +1,42 @@
-ghost use Rattle.std.specs.Prelude.{◌≡◌, ◌≤◌, ◌-◌, ◌+◌, ◌++◌, [], ◌∷◌, All, IfOk, OnOk, length, map};
+ghost use Rattle.std.specs.Prelude.{◌≡◌, ◌≤◌, ◌-◌, ◌+◌, ◌++◌, [], ◌∷◌, All, IfOk, OnOk, length};
 ghost use Rattle.std.specs.Fmt.{decimal};
 ghost use Rattle.roster_model.specs.SoundInstance.{IsSoundInstance};
 ghost use Rattle.roster_tables.specs.Called.{group_called};
-ghost use Rattle.roster_csv.specs.Rows.{fields_of, guarded, name_of, piece_row, rows_from, shift_rows, table_of, time_of};
+ghost use Rattle.page_labels.specs.Labels as words;
+ghost use Rattle.roster_csv.specs.Rows.{
+  amount_of,
+  fields_of,
+  name_of,
+  piece_row,
+  price_of,
+  rows_from,
+  shift_rows,
+  table_of,
+};
+ghost use Rattle.roster_csv.specs.Sheets.{guarded, time_of};
 
-use crate::field::{add_number, add_price, add_text, add_time, name_of};
+use crate::field::{add_number, add_price, add_price_amount, add_text, add_time, name_of};
 use crate::piece::{Piece, pieces_of};
-use crate::row::add_row;
-use page_labels::{Clock, Labels};
+use crate::row::{add_record, add_row};
+use crate::sheet::marked;
+use page_labels::{Clock, Labels, decimals_of, shift_name};
 use roster_model::{Instance, List, Memory, Shift};
 use roster_tables::group_called;
 use std::alloc::Global;
 
 // What stands above the records.
-const HEAD: [&[u8]; 9] = [
-    b"shift", b"group", b"code", b"name", b"first", b"last", b"begin", b"end", b"price",
+const HEAD: [&[u8]; 11] = [
+    b"shift",
+    b"group",
+    b"code",
+    b"name",
+    b"first",
+    b"last",
+    b"begin",
+    b"end",
+    b"price",
+    b"employee",
+    b"amount",
 ];
 
 // Appends the fields that tell a shift: its number and its group.
@@ -68,6 +90,26 @@ fn add_period_fields(
     add_time(alloc, fields, clock, piece.last)
 }
 
+// Appends the fields of what a shift costs, and of who works it.
+fn add_cost_fields(
+    alloc: Global,
+    fields: &mut List<List<u8>>,
+    labels: &Labels,
+    place: usize,
+    shift: &Shift,
+    piece: Piece,
+) -> Result<(), Memory>
+    requires { place ≤ 64 }
+    ensures { OnOk result (fields.new ≡ fields.old ++ price_of shift.now piece
+        ∷ guarded (words.shift_name labels.now.shifts (place + 1))
+        ∷ amount_of (words.decimals_of labels.now) shift.now piece ∷ []) }
+{
+    add_price(alloc, fields, shift, piece)?;
+    let employee = shift_name(labels.shifts.as_slice(), place as u32 + 1);
+    add_text(alloc, fields, employee)?;
+    add_price_amount(alloc, fields, decimals_of(labels), shift, piece)
+}
+
 // Returns the fields of the record of a stretch, of the shift behind so many.
 fn fields_of(
     alloc: Global,
@@ -85,19 +127,8 @@ fn fields_of(
     add_shift_fields(alloc, &mut fields, instance, labels, place, shift)?;
     add_code_fields(alloc, &mut fields, instance, labels, piece.byte)?;
     add_period_fields(alloc, &mut fields, labels.clock, piece)?;
-    add_price(alloc, &mut fields, shift, piece)?;
+    add_cost_fields(alloc, &mut fields, labels, place, shift, piece)?;
     Ok(fields)
-}
-
-// Returns the fields as slices.
-fn views<'a>(alloc: Global, fields: &'a [List<u8>]) -> Result<List<&'a [u8]>, Memory>
-    ensures { IfOk result (λ v. map (λ f. f.now) v ≡ fields.now) }
-{
-    let mut slices = List::new(alloc);
-    for field in fields {
-        slices.push(field.as_slice())?;
-    }
-    Ok(slices)
 }
 
 // Appends the record of a stretch.
@@ -115,8 +146,7 @@ fn add_piece(
     ensures { OnOk result (out.new ≡ out.old ++ piece_row instance.now labels.now place shift.now piece) }
 {
     let fields = fields_of(alloc, instance, labels, place, shift, piece)?;
-    let slices = views(alloc, fields.as_slice())?;
-    add_row(alloc, out, slices.as_slice())
+    add_record(alloc, out, fields.as_slice())
 }
 
 // Appends the records of the shift behind so many.
@@ -163,9 +193,10 @@ fn add_shifts(
 
 /// Returns the table of at most 64 shifts as comma-separated values, under labels: a record for each greatest
 /// stretch of one code, idle ones too, by the numbers of the shifts. Its fields are the number of the shift, its
-/// group, the code, what it is called, the first and the last period, when it begins and ends, and, in the shift's
-/// first record, the price. Fields that are not known are empty; a field that a spreadsheet would read as a formula
-/// has an apostrophe before it.
+/// group, the code, what it is called, the first and the last period, when it begins and ends, in the shift's first
+/// record the price, who works the shift, and in its first record the price as an amount. Fields that are not known
+/// are empty; a field that a spreadsheet would read as a formula has an apostrophe before it. Before a table that is
+/// not all ASCII stands a byte order mark.
 ///
 /// # Errors
 ///
@@ -184,5 +215,5 @@ pub fn table_of(
     let mut out = List::new(alloc);
     add_row(alloc, &mut out, &HEAD)?;
     add_shifts(alloc, &mut out, instance, labels, shifts)?;
-    Ok(out)
+    marked(alloc, out)
 }

@@ -10,10 +10,10 @@ returns-in-Ok g c =
     let before : Told = g.S.Shelf.told c.args.shelf.now in
     let middle : Told = g.S.Shelf.told c.fetched.new.shelf in
     let after : Told = g.S.Shelf.told c.draw_dated_texts.new.shelf in
-    labels-dated c.args.date before after c.draw_dated_texts.result c.args.demand.now c.args.proof.now c.args.rules.now c.args.labels.now c.in-Ok.text.items middle c.in-Ok.ensures.text (rw c.as_slice.ensures.value at c.draw_dated_texts.ensures)
+    labels-dated c.args.day before after c.draw_dated_texts.result c.args.demand.now c.args.proof.now c.args.rules.now c.args.labels.now c.in-Ok.text.items middle c.in-Ok.ensures.text (rw c.as_slice.ensures.value at c.draw_dated_texts.ensures)
 
 pub returns-in-Err : goal.returns-in-Err
 returns-in-Err g c =
     let before : Told = g.S.Shelf.told c.args.shelf.now in
     let after : Told = g.S.Shelf.told c.fetched.new.shelf in
-    unread (AnswersDatedLabels c.args.date before.held c.args.rules.now c.args.demand.now c.args.proof.now c.args.labels.now) c.args.labels.now (c.args.demand.now ∷ c.args.proof.now ∷ []) before after c.in-Err.status c.in-Err.ensures.refusal
+    unread (AnswersDatedLabels c.args.day before.held c.args.rules.now c.args.demand.now c.args.proof.now c.args.labels.now) c.args.labels.now (c.args.demand.now ∷ c.args.proof.now ∷ []) before after c.in-Err.status c.in-Err.ensures.refusal

@@ -1,0 +1,126 @@
+//! What is asked of a third text under labels, as `answers` asks it, with notes on the events of its shifts.
+
+ghost use Rattle.std.specs.Prelude.{[], ◌∷◌};
+ghost use Rattle.roster_model.specs.Sound.{IsPlain, IsSound};
+ghost use Rattle.roster_model.specs.SoundInstance.{IsSoundInstance};
+ghost use Rattle.answers.specs.Asked.{AnswersDemand, AnswersThird, DemandAnswers, RulesAnswers, TextsAnswers};
+ghost use Rattle.answers.specs.Reader.{IsReader};
+
+use crate::events_note::note_events;
+use answers::{MOST_DEMAND, Question, demand_refusal, fetched, rules_refusal, say_answer_to};
+use demand_text::read_demand;
+use roster_model::{Grammar, Instance};
+use rules_text::read_rules;
+use shelf::Shelf;
+use std::alloc::Global;
+
+// Asks something of the third text under a name.
+fn ask_third<S: Shelf, Q: Question>(
+    alloc: Global,
+    shelf: &mut S,
+    instance: &Instance,
+    third: &str,
+    labels: &[u8],
+    question: &Q,
+) -> u8
+    requires { IsSoundInstance instance.now }
+    ensures { IsReader (AnswersThird (Q.answers question.now) (S.told shelf.old).held instance.now third.now)
+        (third.now ∷ []) (S.told shelf.old) (S.told shelf.new) result }
+{
+    match fetched(alloc, shelf, third, question.most()) {
+        Ok(text) => {
+            let text = text.as_slice();
+            let status = say_answer_to(shelf, text, question.answer(alloc, instance, text));
+            note_events(alloc, shelf, instance, labels, text, status);
+            status
+        }
+        Err(status) => status,
+    }
+}
+
+// Asks something of the third text under a name by a demand text.
+fn ask_demand_text<S: Shelf, Q: Question>(
+    alloc: Global,
+    shelf: &mut S,
+    grammar: Grammar,
+    text: &[u8],
+    third: &str,
+    labels: &[u8],
+    question: &Q,
+) -> u8
+    requires sound { IsSound grammar }
+    requires plain { IsPlain grammar }
+    ensures { IsReader (DemandAnswers (Q.answers question.now) (S.told shelf.old).held
+        grammar text.now third.now) (third.now ∷ []) (S.told shelf.old) (S.told shelf.new) result }
+{
+    match read_demand(alloc, grammar, text) {
+        Ok(instance) => ask_third(alloc, shelf, &instance, third, labels, question),
+        Err(fault) => say_answer_to(shelf, text, demand_refusal(alloc, fault)),
+    }
+}
+
+/// Asks something of the third text under a name by a rules text and a demand text, and says the answer, or why a text
+/// is refused; notes what the events of its shifts have under a labels text that a reader may not expect. The texts are
+/// read in this order.
+pub(crate) fn ask_texts<S: Shelf, Q: Question>(
+    alloc: Global,
+    shelf: &mut S,
+    rules: &[u8],
+    demand: &[u8],
+    third: &str,
+    labels: &[u8],
+    question: &Q,
+) -> u8
+    ensures { IsReader (TextsAnswers (Q.answers question.now) (S.told shelf.old).held
+        rules.now demand.now third.now) (third.now ∷ []) (S.told shelf.old) (S.told shelf.new) result }
+{
+    match read_rules(alloc, rules) {
+        Ok(grammar) => ask_demand_text(alloc, shelf, grammar, demand, third, labels, question),
+        Err(fault) => say_answer_to(shelf, rules, rules_refusal(alloc, fault)),
+    }
+}
+
+// Asks something of the third text under a name by the demand text under another.
+fn ask_demand<S: Shelf, Q: Question>(
+    alloc: Global,
+    shelf: &mut S,
+    grammar: Grammar,
+    demand: &str,
+    third: &str,
+    labels: &[u8],
+    question: &Q,
+) -> u8
+    requires sound { IsSound grammar }
+    requires plain { IsPlain grammar }
+    ensures { IsReader (AnswersDemand (Q.answers question.now) (S.told shelf.old).held
+        grammar demand.now third.now)
+        (demand.now ∷ third.now ∷ []) (S.told shelf.old) (S.told shelf.new) result }
+{
+    match fetched(alloc, shelf, demand, MOST_DEMAND) {
+        Ok(text) => {
+            let text = text.as_slice();
+            ask_demand_text(alloc, shelf, grammar, text, third, labels, question)
+        }
+        Err(status) => status,
+    }
+}
+
+/// The same by a rules text and the demand text under a name.
+pub(crate) fn ask_rules_text<S: Shelf, Q: Question>(
+    alloc: Global,
+    shelf: &mut S,
+    text: &[u8],
+    demand: &str,
+    third: &str,
+    labels: &[u8],
+    question: &Q,
+) -> u8
+    ensures { IsReader (RulesAnswers (Q.answers question.now) (S.told shelf.old).held
+        text.now demand.now third.now)
+        (demand.now ∷ third.now ∷ []) (S.told shelf.old) (S.told shelf.new) result }
+{
+    match read_rules(alloc, text) {
+        Ok(grammar) => ask_demand(alloc, shelf, grammar, demand, third, labels, question),
+        Err(fault) => say_answer_to(shelf, text, rules_refusal(alloc, fault)),
+    }
+}
