@@ -66,6 +66,7 @@ a</text></g>\n\
 1</text><text class='tick' x='116' y='127'>2</text><text class='tick' x='156' y='127'>\
 3</text><text class='tick' x='196' y='127'>4</text></svg></div></figure>\n\
 </div></section>\n\
+<div class='lists'>\n\
 <section class='list'><h2>Codes</h2>\n\
 <div class='scroll'><table><thead><tr><th>Code</th><th>Periods</th><th>Covered</th></tr></thead>\n\
 <tbody>\n\
@@ -79,6 +80,14 @@ a</text></g>\n\
 <tbody>\n\
 <tr><td>all</td><td>2</td><td>0</td><td>2</td></tr>\n\
 </tbody></table></div></section>\n\
+<section class='list'><h2>Begin and end</h2>\n\
+<div class='scroll'><table><thead><tr><th>Time</th><th>Begin</th><th>End</th></tr></thead>\n\
+<tbody>\n\
+<tr><td>1</td><td>1</td><td>0</td></tr>\n\
+<tr><td>2</td><td>1</td><td>0</td></tr>\n\
+<tr><td>3</td><td>0</td><td>1</td></tr>\n\
+<tr><td>4</td><td>0</td><td>1</td></tr>\n\
+</tbody></table></div></section>\n\
 <section class='list'><h2>List of shifts</h2>\n\
 <div class='scroll'><table><thead><tr><th>Shift</th><th>Begin</th><th>End</th><th>Periods of work</th>\
 <th>Paid time</th><th>Price</th><th>Codes</th></tr></thead>\n\
@@ -86,6 +95,7 @@ a</text></g>\n\
 <tr><td>2</td><td>1</td><td>3</td><td>3</td><td>3</td><td>5</td><td class='word'>aaa.</td></tr>\n\
 <tr><td>1</td><td>2</td><td>4</td><td>3</td><td>3</td><td>5</td><td class='word'>.aaa</td></tr>\n\
 </tbody></table></div></section>\n\
+</div>\n\
 <div class='derivations'><h2>How the rules derive each shift</h2>\n\
 <pre class='derivation' id='d0'><b>Shift 2: aaa., price 5</b>\n\
 word aaa.\n\
@@ -161,7 +171,7 @@ viewBox='0 0 1088 66' width='1088' height='66'>
 <dt>Total cost</dt><dd>10 E&amp;R</dd>
 <text class='price' x='298' y='47'>5 E&amp;R</text>
 <text class='tick' x='56' y='20'>7:00</text><text class='tick' x='96' y='20'>7:30</text>
-<text class='tick' x='176' y='127'>8:30</text></svg>
+<text class='tick' x='176' y='127'>8:30</text><text class='tick' x='216' y='127'>9:00</text></svg>
 ~ page halves groups staff team
 0 ..
 <text class='name' x='118' y='47'>full time</text>
