@@ -1,5 +1,6 @@
 -- Whose name stands in the lines of the table of shifts, and which lines a shift has.
-use Rattle.std.proofs.Common.{◌≡◌, ℕ, ◌+◌, ◌<◌, List, [], ◌∷◌, ◌++◌, Bool, true, false, Option, length, map, refl, sym, ap, subst, arith}
+use Rattle.std.proofs.Common.{◌≡◌, ℕ, ◌+◌, ◌<◌, List, [], ◌∷◌, ◌++◌, Bool, true, false, Option, length, map, refl, sym, ap, subst}
+use Rattle.std.proofs.lemmas.Bool.{lt-ltb}
 use Rattle.std.specs.List.{flat_map}
 use Rattle.std.specs.Prelude.{None, Some, if◌then◌else◌, nat_lt, slice_get}
 use Rattle.roster_model.proofs.EachLemmas.{Each-append}
@@ -19,10 +20,13 @@ module _ (i : Instance) (d : Labels) (marked : List ℕ) where
   parts_named k s first [] = tt
   parts_named k s first (t ∷ ts) = (record { who = refl }, parts_named k s false ts)
 
+  named_if : (b : Bool) (k : ℕ) (s : Shift) (ts : List Stretch) → Each (HasItsName d) (if b then parts_of i d marked k s true ts else line_of i d marked k s ∷ [])
+  named_if true k s ts = parts_named k s true ts
+  named_if false k s ts = (record { who = refl }, tt)
+
   named_by : (k : ℕ) (s : Shift) (ts : List Stretch) → Each (HasItsName d) (lines_by i d marked k s ts)
   unfolding lines_by
-  named_by k s [] = (record { who = refl }, tt)
-  named_by k s (t ∷ ts) = parts_named k s true (t ∷ ts)
+  named_by k s ts = named_if (nat_lt 0 (length ts)) k s ts
 
   named_in : (shifts : List Shift) (k : ℕ) (o : Option Shift) → Each (HasItsName d) (elim o [ None ↦ [] | Some s ↦ shift_lines i d marked k s ])
   named_in shifts k None = tt
@@ -49,15 +53,19 @@ module _ (i : Instance) (d : Labels) (marked : List ℕ) where
   firsts_of k s first [] = refl
   firsts_of k s first (t ∷ ts) = ap (λ (xs : List Bool). first ∷ xs) (firsts_of k s false ts)
 
+  parts_stretches : (k : ℕ) (s : Shift) (ts : List Stretch) → AreItsStretches d k ts (parts_of i d marked k s true ts)
+  parts_stretches k s ts = record {
+    shift = parts_of_shift k s true ts;
+    begins = begins_of k s true ts;
+    ends = ends_of k s true ts;
+    first = firsts_of k s true ts;
+  }
+
   its_stretches : (k : ℕ) (s : Shift) (ts : List Stretch) → 0 < length ts → AreItsStretches d k ts (lines_by i d marked k s ts)
   unfolding lines_by
-  its_stretches k s [] h = absurd (omega (arith, h))
-  its_stretches k s (t ∷ ts) h = record {
-    shift = parts_of_shift k s true (t ∷ ts);
-    begins = begins_of k s true (t ∷ ts);
-    ends = ends_of k s true (t ∷ ts);
-    first = firsts_of k s true (t ∷ ts);
-  }
+  its_stretches k s ts h =
+      subst (λ (b : Bool). AreItsStretches d k ts (if b then parts_of i d marked k s true ts else line_of i d marked k s ∷ []))
+      (sym (lt-ltb 0 (length ts) h)) (parts_stretches k s ts)
 
   pub stretch_lines_by : (k : ℕ) (s : Shift) → 0 < length (spans_of d.off s.word) → AreItsStretches d k (spans_of d.off s.word) (shift_lines i d marked k s)
   stretch_lines_by k s h = its_stretches k s (spans_of d.off s.word) h
