@@ -47,7 +47,7 @@ a</text></g>\n\
 <span class='key floor'></span>floor</li><li><span class='key ceiling'>\
 </span>ceiling</li></ul>\n\
 <div class='charts'>\n\
-<figure><figcaption><span class='chip w0'>a</span></figcaption><div class='scroll'>\
+<figure><figcaption><span class='chip w0'>a</span> </figcaption><div class='scroll'>\
 <svg role='img' aria-label='Coverage of a. Needed by period: 1 2 2 1. At work: 1 2 2 1. Short: 0 0 0 0. Surplus: 0 0 0 0.' viewBox='0 0 2\
 88 132' width='288' height='132'>\n\
 <rect class='have' x='56' y='64' width='40' height='48'/><rect class='short' x='56' y='64' width='40\
