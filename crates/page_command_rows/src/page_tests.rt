@@ -141,16 +141,17 @@ fn a_page_shows_its_roster(rt: HostRuntime) -> Result<(), Fail> {
 }
 
 /// What stands on other pages: of a call centre's shift under a floor and a ceiling, of 96 periods, of no
-/// roster, and under labels, with letters that HTML has a use for.
+/// roster, under labels, with letters that HTML has a use for, and with a name, time off and decimals, beside an
+/// old roster.
 const PAGES: &str = "
 ~ page g3 centre shift
 0 ..
 <p>Nothing is proved of the cost.</p>
-<rect class='i2' x='376' y='32' width='39' height='22'/><text class='i2' x='396' y='47'>m</text>
-<rect class='i1' x='536' y='32' width='39' height='22'/><text class='i1' x='556' y='47'>p</text>
-<text class='name' x='46' y='47'></text><text class='price' x='1074' y='47'>28</text>
-<rect class='have' x='336' y='80' width='40' height='32'/><rect class='short' x='336' y='48'
-<path class='floor' d='M216 80H256'/><path class='ceiling' d='M216 16H256'/>
+<rect class='i2' x='296' y='32' width='29' height='22'/><text class='i2' x='311' y='47'>m</text>
+<rect class='i1' x='416' y='32' width='29' height='22'/><text class='i1' x='431' y='47'>p</text>
+<text class='name' x='46' y='47'></text><text class='price' x='834' y='47'>28</text>
+<rect class='have' x='266' y='80' width='30' height='32'/><rect class='short' x='266' y='48'
+<path class='floor' d='M176 80H206'/><path class='ceiling' d='M176 16H206'/>
 Short: 0 0 0 0 0 0 1 1 3 3 1 1 1 0 1 2 3 3 2 2 1 1 0 0. Surplus: 0
 ~ page day all_day long
 0 ..
@@ -175,6 +176,21 @@ viewBox='0 0 1088 66' width='1088' height='66'>
 ~ page halves groups staff team
 0 ..
 <text class='name' x='118' y='47'>full time</text>
+~ page split one night worked early
+0 ..
+<p>Nothing is proved of the cost.</p></header>
+<dl><div><dt>Total cost</dt><dd>0.02</dd></div><div><dt>Paid for shifts</dt><dd>0.01</dd></div>
+<p>1 shift and 3 periods differ from the old roster. Letters that differ are underlined.</p>
+aria-label='Shift 1: Ann a.a, price 0.01'>
+<text class='name' x='70' y='47'>Ann</text>
+<text class='w0' x='100' y='47'>a</text><path class='changed' d='M80 55H119'/><rect class='i0' x='120'
+y='32' width='39' height='22'/><path class='changed' d='M120 55H159'/><rect class='w0' x='160'
+<tr><td>a</td><td>8:00</td><td>16:00</td><td>1</td><td>0.01</td></tr>
+<tr><td>0:00 +1</td><td>0</td><td>1</td></tr>
+<th>Shift</th><th>Who</th><th>Begin</th>
+<tr><td>1</td><td>Ann</td><td>0:00</td><td>8:00</td><td>1</td><td>16:00</td><td>0.01</td><td class='word'>a.a</td></tr>
+<tr><td>1</td><td>Ann</td><td>16:00</td><td>0:00 +1</td><td>1</td><td></td><td></td><td></td></tr>
+cost 0.01
 ";
 
 #[test]
