@@ -1,8 +1,7 @@
 -- The periods of a day's columns are those of a day.
-use Rattle.std.proofs.Common.{◌≡◌, ℕ, ◌≤◌, Bool, true, false, cond, List, length, map, arith}
-use Rattle.std.specs.Prelude.{if◌then◌else◌, nat_eq}
+use Rattle.std.proofs.Common.{ℕ, ◌≤◌, Bool, true, false, cond, List, map, arith}
+use Rattle.std.specs.Prelude.{nat_eq}
 use Rattle.std.proofs.lemmas.List.{length-map}
-use Rattle.roster_model.specs.Folds.{Each}
 use Rattle.roster_model.proofs.EachLemmas.{Each-map, each_all}
 use Rattle.page_text.specs.Costs.{AreDayColumns}
 use Rattle.page_text.specs.declared.column.CellCover.{CellCover}

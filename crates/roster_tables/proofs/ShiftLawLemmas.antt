@@ -1,5 +1,5 @@
 -- Whose name stands in the lines of the table of shifts, and which lines a shift has.
-use Rattle.std.proofs.Common.{◌≡◌, ℕ, ◌+◌, ◌<◌, List, [], ◌∷◌, ◌++◌, Bool, true, false, Option, length, map, refl, sym, ap, subst}
+use Rattle.std.proofs.Common.{◌≡◌, ℕ, ◌<◌, List, [], ◌∷◌, Bool, true, false, Option, length, map, refl, sym, ap, subst}
 use Rattle.std.proofs.lemmas.Bool.{lt-ltb}
 use Rattle.std.specs.List.{flat_map}
 use Rattle.std.specs.Prelude.{None, Some, if◌then◌else◌, nat_lt, slice_get}

@@ -1,5 +1,5 @@
 -- What groups and codes are called.
-use Rattle.std.specs.Prelude.{ℕ, None, Some, List, [], ◌∷◌, ◌++◌, length, nat_lt, slice_get, if◌then◌else◌}
+use Rattle.std.specs.Prelude.{ℕ, None, Some, List, [], ◌∷◌, length, nat_lt, slice_get, if◌then◌else◌}
 use Rattle.roster_model.specs.declared.grammar.CodeDef.{CodeDef}
 use Rattle.roster_model.specs.declared.instance.Instance.{Instance}
 use Rattle.certificate_text.specs.Written.{group_name}

@@ -1,10 +1,7 @@
 -- Which lines of the table of shifts a shift has, and whose name stands in them.
-use Rattle.std.specs.Prelude.{ℕ, ◌≡◌, ◌+◌, Bool, true, false, List, [], ◌∷◌, length, map, nat_lt}
+use Rattle.std.specs.Prelude.{ℕ, ◌≡◌, ◌+◌, Bool, true, false, List, [], ◌∷◌, map}
 use Rattle.roster_model.specs.Folds.{Each}
-use Rattle.roster_model.specs.declared.instance.Instance.{Instance}
-use Rattle.roster_model.specs.declared.instance.Shift.{Shift}
 use Rattle.page_labels.specs.Labels.{shift_name}
-use Rattle.page_labels.specs.declared.clock.Clock.{Clock}
 use Rattle.page_labels.specs.declared.labels.Labels.{Labels}
 use Rattle.page_tables.specs.declared.line.ShiftLine.{ShiftLine}
 use Rattle.shift_figures.specs.declared.stretch.Stretch.{Stretch}
