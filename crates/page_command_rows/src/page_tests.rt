@@ -47,7 +47,7 @@ a</text></g>\n\
 <span class='key floor'></span>floor</li><li><span class='key ceiling'>\
 </span>ceiling</li></ul>\n\
 <div class='charts'>\n\
-<figure><figcaption><span class='chip w0'>a</span></figcaption><div class='scroll'>\
+<figure><figcaption><span class='chip w0'>a</span> </figcaption><div class='scroll'>\
 <svg role='img' aria-label='Coverage of a. Needed by period: 1 2 2 1. At work: 1 2 2 1. Short: 0 0 0 0. Surplus: 0 0 0 0.' viewBox='0 0 2\
 88 132' width='288' height='132'>\n\
 <rect class='have' x='56' y='64' width='40' height='48'/><rect class='short' x='56' y='64' width='40\
@@ -66,6 +66,7 @@ a</text></g>\n\
 1</text><text class='tick' x='116' y='127'>2</text><text class='tick' x='156' y='127'>\
 3</text><text class='tick' x='196' y='127'>4</text></svg></div></figure>\n\
 </div></section>\n\
+<div class='lists'>\n\
 <section class='list'><h2>Codes</h2>\n\
 <div class='scroll'><table><thead><tr><th>Code</th><th>Periods</th><th>Covered</th></tr></thead>\n\
 <tbody>\n\
@@ -79,6 +80,14 @@ a</text></g>\n\
 <tbody>\n\
 <tr><td>all</td><td>2</td><td>0</td><td>2</td></tr>\n\
 </tbody></table></div></section>\n\
+<section class='list'><h2>Begin and end</h2>\n\
+<div class='scroll'><table><thead><tr><th>Time</th><th>Begin</th><th>End</th></tr></thead>\n\
+<tbody>\n\
+<tr><td>1</td><td>1</td><td>0</td></tr>\n\
+<tr><td>2</td><td>1</td><td>0</td></tr>\n\
+<tr><td>3</td><td>0</td><td>1</td></tr>\n\
+<tr><td>4</td><td>0</td><td>1</td></tr>\n\
+</tbody></table></div></section>\n\
 <section class='list'><h2>List of shifts</h2>\n\
 <div class='scroll'><table><thead><tr><th>Shift</th><th>Begin</th><th>End</th><th>Periods of work</th>\
 <th>Paid time</th><th>Price</th><th>Codes</th></tr></thead>\n\
@@ -86,6 +95,7 @@ a</text></g>\n\
 <tr><td>2</td><td>1</td><td>3</td><td>3</td><td>3</td><td>5</td><td class='word'>aaa.</td></tr>\n\
 <tr><td>1</td><td>2</td><td>4</td><td>3</td><td>3</td><td>5</td><td class='word'>.aaa</td></tr>\n\
 </tbody></table></div></section>\n\
+</div>\n\
 <div class='derivations'><h2>How the rules derive each shift</h2>\n\
 <pre class='derivation' id='d0'><b>Shift 2: aaa., price 5</b>\n\
 word aaa.\n\
@@ -131,16 +141,17 @@ fn a_page_shows_its_roster(rt: HostRuntime) -> Result<(), Fail> {
 }
 
 /// What stands on other pages: of a call centre's shift under a floor and a ceiling, of 96 periods, of no
-/// roster, and under labels, with letters that HTML has a use for.
+/// roster, under labels, with letters that HTML has a use for, and with a name, time off and decimals, beside an
+/// old roster.
 const PAGES: &str = "
 ~ page g3 centre shift
 0 ..
 <p>Nothing is proved of the cost.</p>
-<rect class='i2' x='376' y='32' width='39' height='22'/><text class='i2' x='396' y='47'>m</text>
-<rect class='i1' x='536' y='32' width='39' height='22'/><text class='i1' x='556' y='47'>p</text>
-<text class='name' x='46' y='47'></text><text class='price' x='1074' y='47'>28</text>
-<rect class='have' x='336' y='80' width='40' height='32'/><rect class='short' x='336' y='48'
-<path class='floor' d='M216 80H256'/><path class='ceiling' d='M216 16H256'/>
+<rect class='i2' x='296' y='32' width='29' height='22'/><text class='i2' x='311' y='47'>m</text>
+<rect class='i1' x='416' y='32' width='29' height='22'/><text class='i1' x='431' y='47'>p</text>
+<text class='name' x='46' y='47'></text><text class='price' x='834' y='47'>28</text>
+<rect class='have' x='266' y='80' width='30' height='32'/><rect class='short' x='266' y='48'
+<path class='floor' d='M176 80H206'/><path class='ceiling' d='M176 16H206'/>
 Short: 0 0 0 0 0 0 1 1 3 3 1 1 1 0 1 2 3 3 2 2 1 1 0 0. Surplus: 0
 ~ page day all_day long
 0 ..
@@ -161,10 +172,25 @@ viewBox='0 0 1088 66' width='1088' height='66'>
 <dt>Total cost</dt><dd>10 E&amp;R</dd>
 <text class='price' x='298' y='47'>5 E&amp;R</text>
 <text class='tick' x='56' y='20'>7:00</text><text class='tick' x='96' y='20'>7:30</text>
-<text class='tick' x='176' y='127'>8:30</text></svg>
+<text class='tick' x='176' y='127'>8:30</text><text class='tick' x='216' y='127'>9:00</text></svg>
 ~ page halves groups staff team
 0 ..
 <text class='name' x='118' y='47'>full time</text>
+~ page split one night worked early
+0 ..
+<p>Nothing is proved of the cost.</p></header>
+<dl><div><dt>Total cost</dt><dd>0.02</dd></div><div><dt>Paid for shifts</dt><dd>0.01</dd></div>
+<p>1 shift and 3 periods differ from the old roster. Letters that differ are underlined.</p>
+aria-label='Shift 1: Ann a.a, price 0.01'>
+<text class='name' x='70' y='47'>Ann</text>
+<text class='w0' x='100' y='47'>a</text><path class='changed' d='M80 55H119'/><rect class='i0' x='120'
+y='32' width='39' height='22'/><path class='changed' d='M120 55H159'/><rect class='w0' x='160'
+<tr><td>a</td><td>8:00</td><td>16:00</td><td>1</td><td>0.01</td></tr>
+<tr><td>0:00 +1</td><td>0</td><td>1</td></tr>
+<th>Shift</th><th>Who</th><th>Begin</th>
+<tr><td>1</td><td>Ann</td><td>0:00</td><td>8:00</td><td>1</td><td>16:00</td><td>0.01</td><td class='word'>a.a</td></tr>
+<tr><td>1</td><td>Ann</td><td>16:00</td><td>0:00 +1</td><td>1</td><td></td><td></td><td></td></tr>
+cost 0.01
 ";
 
 #[test]

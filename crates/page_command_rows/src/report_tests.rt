@@ -13,8 +13,7 @@ shift,group,code,name,first,last,begin,end,price,employee,amount
 ~ page g1 two report
 0 ..
 <p>Nothing is proved of the cost.</p>
-<dt>Total cost</dt><dd>10</dd></div><div><dt>Bound</dt><dd>0</dd></div>
-<dt>Paid for shifts</dt><dd>10</dd></div>
+<dt>Total cost</dt><dd>10</dd></div><div><dt>Paid for shifts</dt><dd>10</dd></div>
 aria-label='Shift 1: .aaa, price 5'>
 ~ page halves groups team_report team
 0 ..

@@ -220,6 +220,11 @@ paid p yes
 clock 0:00 480
 paid p yes
 off .
+@ worked
+clock 0:00 480
+off .
+decimals 2
+shift 1 a.a Ann
 @ stray
 clock 7:00 30
 shift 7 a Ann

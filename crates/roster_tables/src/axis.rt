@@ -1,9 +1,8 @@
 ghost use Rattle.std.specs.Prelude.{◌≡◌, ◌≤◌, ◌+◌, ◌*◌, ◌^◌, map, IfOk};
 ghost use Rattle.page_parts.specs.Elements.{places};
-ghost use Rattle.roster_tables.specs.AxisTimes.{axis_time, axis_times, is_hour, is_hourly, is_regular, is_shown};
+ghost use Rattle.roster_tables.specs.AxisTimes.{axis_time, axis_times, is_hour, is_hourly, is_late, is_regular, is_shown, late_step, plain_step, step_at};
 
 use page_labels::{Clock, put_time};
-use page_text::step_of;
 use roster_model::{List, Memory};
 use std::alloc::Global;
 
@@ -15,13 +14,60 @@ fn length_of(clock: Clock, periods: u8) -> u64
     u64::from(clock.minutes) * u64::from(periods)
 }
 
-// Whether whole hours begin periods, and stand as far apart as numbers of periods would, where not each period
-// has one.
+// Whether the last period ends behind midnight, so that ` +1` stands behind some times.
+fn is_late(clock: Clock, periods: u8) -> bool
+    ensures { result ≡ is_late clock periods }
+{
+    1440 < clock.begin as u64 + length_of(clock, periods)
+}
+
+// Returns at every how many of so many periods there are 40 pixels for a time.
+fn plain_step(periods: u8) -> u8
+    ensures value { result ≡ plain_step periods }
+    ensures some { 1 ≤ result }
+{
+    if periods < 19 {
+        1
+    } else if periods < 38 {
+        2
+    } else {
+        4
+    }
+}
+
+// Returns at every how many of so many periods there are 48 pixels for a time with ` +1`.
+fn late_step(periods: u8) -> u8
+    ensures value { result ≡ late_step periods }
+    ensures some { 1 ≤ result }
+{
+    if periods < 31 {
+        2
+    } else if periods < 62 {
+        4
+    } else {
+        8
+    }
+}
+
+// Returns at every how many of so many periods a time has room.
+#[tactic(auto, unfolding(crate::specs::AxisTimes::step_at))]
+fn step_at(clock: Clock, periods: u8) -> u8
+    ensures value { result ≡ step_at clock periods }
+    ensures some { 1 ≤ result }
+{
+    if is_late(clock, periods) {
+        late_step(periods)
+    } else {
+        plain_step(periods)
+    }
+}
+
+// Whether whole hours begin periods, and have room, where not each period has a time.
 fn is_hourly(clock: Clock, periods: u8) -> bool
     ensures { result ≡ is_hourly clock periods }
 {
     let minutes = clock.minutes.max(1);
-    let step = step_of(periods) as u32;
+    let step = step_at(clock, periods) as u32;
     1 < step
         && 60 % minutes == 0
         && clock.begin % minutes == 0
@@ -43,7 +89,7 @@ fn is_regular(clock: Clock, periods: u8, place: u8) -> bool
     if is_hourly(clock, periods) {
         is_hour(clock, place)
     } else {
-        place % step_of(periods) == 0
+        place % step_at(clock, periods) == 0
     }
 }
 
@@ -51,7 +97,7 @@ fn is_regular(clock: Clock, periods: u8, place: u8) -> bool
 fn is_shown(clock: Clock, periods: u8, place: u8) -> bool
     ensures { result ≡ is_shown clock periods place }
 {
-    let step = step_of(periods);
+    let step = step_at(clock, periods);
     place == 0
         || is_regular(clock, periods, place)
             && step <= place
@@ -92,9 +138,9 @@ fn clock_times(alloc: Global, clock: Clock, periods: u8) -> Result<List<List<u8>
     Ok(times)
 }
 
-/// Returns for each period the time that stands on the axes of the charts where it begins, or nothing: at
-/// whole hours, where they begin periods and have room, else where numbers of periods would stand, and in any
-/// case at the first period. Behind them stands when the last period ends. Without a clock there is none at
+/// Returns for each period the time that stands on the axes of the charts where it begins, or nothing: at each
+/// period that has room, else at whole hours, where they begin periods and have room, else at every so many
+/// periods, and in any case at the first one. Behind them stands when the last period ends. Without a clock there is none at
 /// all.
 ///
 /// # Errors
