@@ -15,14 +15,16 @@ set_parts-requires-clause-few c =
 pub returns-in_default : goal.returns-in_default
 returns-in_default c =
     let k = c.requires.desk in
-    record { pricing = k.pricing; most = k.most; rosters = k.rosters; moves = record { short = c.keep_all.ensures.made; room = k.moves.room } }
+    record { desk = record { pricing = k.pricing; most = k.most; rosters = k.rosters; moves = record { short = c.keep_all.ensures.made; room = k.moves.room } } }
 
 pub returns : goal.returns
 returns c =
     let k = c.requires.desk in
     record {
-      pricing = record { pricer = k.pricing.pricer; room = c.set_parts.ensures.room };
-      most = c.set_parts.ensures.most ∙ k.most;
-      rosters = k.rosters;
-      moves = record { short = c.keep.ensures.made; room = k.moves.room };
+      desk = record {
+        pricing = record { pricer = k.pricing.pricer; room = c.set_parts.ensures.room };
+        most = c.set_parts.ensures.most ∙ k.most;
+        rosters = k.rosters;
+        moves = record { short = c.keep.ensures.made; room = k.moves.room };
+      };
     }
