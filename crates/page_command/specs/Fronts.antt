@@ -4,7 +4,6 @@ use Rattle.std.proofs.lemmas.Bool.{lt-leb}
 use Rattle.roster_model.specs.declared.instance.Instance.{Instance}
 use Rattle.roster_model.specs.declared.instance.Shift.{Shift}
 use Rattle.certificates.specs.declared.cert.Cert.{Cert}
-use Rattle.text_lines.specs.Lines.{text_items}
 use Rattle.proof_pieces.specs.CertOf.{proof_of}
 use Rattle.proof_pieces.specs.declared.fault.ProofFault.{ProofFault}
 use Rattle.roster_value.specs.stated_rosters.RosterOf.{begins_report, roster_of}
@@ -12,6 +11,7 @@ use Rattle.roster_value.specs.declared.stated_rosters.fault.RosterFault.{RosterF
 use Rattle.page_labels.specs.LabelsOf.{item_at, labels_of}
 use Rattle.page_labels.specs.Labels.{nothing}
 use Rattle.page_labels.specs.Steps.{each}
+use Rattle.page_labels.specs.TextLines.{text_items}
 use Rattle.page_labels.specs.declared.fault.LabelFault.{LabelFault}
 use Rattle.page_labels.specs.declared.fault.LabelFault.TheVariants.{TooLong}
 use Rattle.page_labels.specs.declared.labels.Labels.{Labels}
