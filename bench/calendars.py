@@ -35,7 +35,9 @@ def lines_of(text):
             whole[-1] += row[1:]
         else:
             whole.append(row)
-    return [row.decode("ascii") for row in whole]
+    for row in rows:
+        row.decode()
+    return [row.decode() for row in whole]
 
 
 def value_of(text):
@@ -66,24 +68,34 @@ def events_of(lines):
 
 
 def said_labels(text):
-    """The title, the clock, and what codes and groups are called."""
-    rows = [line.split(" ") for line in text.splitlines()]
+    """The title, the clock, the code of time off, who works the shifts, and what codes and groups are called."""
+    rows = [row for line in text.splitlines() if (row := line.partition("#")[0].split())]
     title = next((" ".join(row[1:]) for row in rows if row[0] == "title"), "")
     clock = next(row[1:] for row in rows if row[0] == "clock")
     hours, minutes = map(int, clock[0].split(":"))
     called = {kind: {row[1]: " ".join(row[2:]) for row in rows if row[0] == kind} for kind in ("code", "group")}
-    return title, 60 * hours + minutes, int(clock[1]), called
+    off = next((row[1] for row in rows if row[0] == "off"), None)
+    names = {int(row[1]): row[2:] for row in rows if row[0] == "shift"}
+    return title, 60 * hours + minutes, int(clock[1]), off, names, called
+
+
+def spans_of(word, work, off):
+    """The places where the events of a word begin and end."""
+    if off is None:
+        places = [place for place, code in enumerate(word) if code in work]
+        return [(places[0], places[-1] + 1)] if places else []
+    return [found.span() for found in re.finditer(f"[^{re.escape(off)}]+", word)]
 
 
 def mark_of(*parts):
     """The hexadecimal digits of a UID, over a title, the name of a group and a word."""
-    counted = b"".join(len(part).to_bytes(8, "big") + part.encode() for part in parts)
+    counted = b"".join(len(part).to_bytes(8, "big") + part for part in map(str.encode, parts))
     return hashlib.sha256(counted).hexdigest()[:32]
 
 
 def wanted(day, rules, proof, labels):
     """The events that the texts ask for."""
-    title, begin, length, called = said_labels(labels)
+    title, begin, length, off, names, called = said_labels(labels)
     midnight = datetime.datetime.fromisoformat(day)
     work = {code for line in rules.decode().splitlines() if line.startswith("work ") for code in line.split()[1:]}
     stamp = f"{midnight:%Y%m%d}T000000Z"
@@ -100,25 +112,25 @@ def wanted(day, rules, proof, labels):
     for number, shift in enumerate(shifts, 1):
         group, word = shift[0] if len(shift) == 3 else "", shift[-2]
         counts[group, word] += 1
-        places = [place for place, code in enumerate(word) if code in work]
-        if not places:
-            continue
-        first, last = places[0], places[-1] + 1
-        stretches, at = [], 0
-        for code, run_of in itertools.groupby(word):
-            end = at + len(list(run_of))
-            if first <= at and end <= last:
-                stretches.append(f"{clock(at)}-{clock(end)} {called['code'].get(code, code)}")
-            at = end
-        name = called["group"].get(group, group)
-        yield {
-            "UID": f"{midnight:%Y%m%d}-{counts[group, word]}-{mark_of(title, group, word)}@roster",
-            "DTSTAMP": stamp,
-            "DTSTART": f"{moment(first):%Y%m%dT%H%M%S}",
-            "DTEND": f"{moment(last):%Y%m%dT%H%M%S}",
-            "SUMMARY": f"{name}: shift {number}" if name else f"Shift {number}",
-            "DESCRIPTION": "\n".join(stretches),
-        }
+        of_group = called["group"].get(group, group)
+        numbered = f"{of_group}: shift {number}" if of_group else f"Shift {number}"
+        who = " ".join(names.get(number, [])[len(shift) - 1:])
+        for first, last in spans_of(word, work, off):
+            stretches, at = [], 0
+            for code, run_of in itertools.groupby(word):
+                end = at + len(list(run_of))
+                if first <= at and end <= last:
+                    stretches.append(f"{clock(at)}-{clock(end)} {called['code'].get(code, code)}")
+                at = end
+            place = "" if off is None else f"-{first + 1}"
+            yield {
+                "UID": f"{midnight:%Y%m%d}-{counts[group, word]}{place}-{mark_of(title, group, word)}@roster",
+                "DTSTAMP": stamp,
+                "DTSTART": f"{moment(first):%Y%m%dT%H%M%S}",
+                "DTEND": f"{moment(last):%Y%m%dT%H%M%S}",
+                "SUMMARY": who or numbered,
+                "DESCRIPTION": "\n".join([numbered] * bool(who) + stretches),
+            }
 
 
 def faults(said, day, *read):

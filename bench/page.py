@@ -3,11 +3,11 @@
 
     apt-get install chromium poppler-utils fonts-dejavu-core
 
-For examples/ (g1, g6, and days that are solved here: the call centre, the shop, the ward) and for days that are
+For examples/ (g1, g6, the ward, and days that are solved here: the call centre, the shop, the shop by skills) and for days that are
 made here (96 periods, 64 shifts, long names, codes that HTML has a use for, labels of 60 bytes, a ceiling of 0, no
 roster, a roster beside an old one, a report in place of a certificate) it draws the page, takes a picture in light, in dark, on a narrow screen, as printed and with a derivation
 shown into FOLDER (/tmp/roster-pages if none is given), and fails where an element of a chart lies outside its frame,
-a text is cut or two texts of a row overlap, a letter of a chart is below 9 pixels, a chart or a table of a day of at most 48 periods
+a text is cut, two texts of a row or of an axis overlap, a letter of a chart is below 9 pixels, a chart or a table of a day of at most 48 periods
 scrolls on a window of 1,200 or 1,440 pixels, a derivation leaves its frame and can't be scrolled, a page asks the network for something, the
 console says a word, or the charts and costs of a printed day of at most 48 periods do not end on its first page. From
 the page of the call centre it makes docs/page.svg anew.
@@ -21,7 +21,7 @@ sys.dont_write_bytecode = True
 from built import program_path
 
 TOP = pathlib.Path(__file__).resolve().parent.parent
-DAYS = {"g1": None, "g6": None, "call_centre": 300, "shop": 60, "ward": 60}
+DAYS = {"g1": None, "g6": None, "call_centre": 300, "shop": 60, "skills": 60, "ward": None}
 
 
 def bare(cost, shifts):
@@ -70,6 +70,9 @@ def report(shifts, cost):
 
 
 TEAM_SHIFTS, TEAM_COST = priced(TEAM)
+for name, count in ("night", 16), ("half_hours", 48):
+    MADE[name] = (f"periods {count}\nwork a\nstart S\nrule S 1 = 'a'\nrule S 0 = 'a' S\n",
+                  "heads 0 1\nneed a 9 2" + " 1" * count, bare(1, ["a" * count + " 1"]))
 MADE["changed"] = (*TEAM_DAY, bare(TEAM_COST, TEAM_SHIFTS))
 MADE["stated"] = (*TEAM_DAY, report(TEAM_SHIFTS, TEAM_COST))
 # The old rosters beside which two of them are drawn.
@@ -86,6 +89,9 @@ LABELS = {
     "marks": "title <Day> & \"night\"\nclock 23:30 45\ncode < " + "<&\">" * 15 + "\ncode & " + "'" * 60
              + "\nmoney EUR\npaid > yes\n",
     "names": f"group {WIDE} {'nurses of the night ' * 2}who are so\ncode a at the desk\nclock 7:00 15\n",
+    "night": "clock 20:00 60\n",
+    "half_hours": "clock 0:00 30\n",
+    **{name: (TOP / f"examples/{name}.labels").read_text() for name in ("shop", "skills", "ward")},
 }
 BROWSER = ["chromium", "--headless", "--no-sandbox", "--disable-gpu", "--hide-scrollbars", "--enable-logging=stderr",
            "--log-level=0", "--virtual-time-budget=2000"]
@@ -95,8 +101,8 @@ for(const svg of document.querySelectorAll('svg')){const f=svg.getBoundingClient
 for(const e of svg.querySelectorAll('rect,text,path')){const b=e.getBoundingClientRect();if(!b.width&&!b.height)continue;
 if(b.left<f.left-near||b.right>f.right+near||b.top<f.top-near||b.bottom>f.bottom+near)
 said.push('outside '+e.outerHTML.slice(0,120));}
-for(const g of svg.querySelectorAll('g.row')){const t=[...g.querySelectorAll('text')].map(e=>[e,e.getBoundingClientRect()])
-.filter(p=>p[1].width).sort((a,b)=>a[1].left-b[1].left);
+for(const s of [...[...svg.querySelectorAll('g.row')].map(g=>g.querySelectorAll('text')),svg.querySelectorAll('text.tick')]){
+const t=[...s].map(e=>[e,e.getBoundingClientRect()]).filter(p=>p[1].width).sort((a,b)=>a[1].left-b[1].left);
 for(let i=1;i<t.length;i++)if(t[i][1].left<t[i-1][1].right-near)said.push('overlap '+t[i-1][0].outerHTML+t[i][0].outerHTML);}}
 for(const e of document.querySelectorAll('h1,h2,p,dt,dd,li,figcaption'))
 if(e.scrollWidth>e.clientWidth+near&&e.clientWidth)said.push('cut '+e.outerHTML.slice(0,120));
@@ -155,8 +161,8 @@ def console(said):
     return [line for line in said.stderr.splitlines() if "CONSOLE" in line]
 
 
-def faults(page, size, may_scroll=True):
-    """What the browser finds wrong with a page; charts and tables may scroll, or may not."""
+def faults(page, size, may_scroll=""):
+    """What the browser finds wrong with a page; a chart or a table whose element begins so may scroll, without it none."""
     copy = page.with_suffix(".look.html")
     copy.write_text(page.read_text().replace("</body>", LOOK + "</body>"))
     said = run(BROWSER + ["--dump-dom", f"--window-size={size}", f"file://{copy}"])
@@ -164,7 +170,7 @@ def faults(page, size, may_scroll=True):
     if not look:
         return ["the page was not looked at"]
     return [line for line in look.group(1).splitlines()
-            if line and not (may_scroll and line.startswith("scrolls "))] + console(said)
+            if line and (may_scroll is None or not line.startswith(f"scrolls {may_scroll}"))] + console(said)
 
 
 def pictures(page, periods):
@@ -215,9 +221,10 @@ def main():
         paths = texts(folder, name)
         page = drawn(folder, name, *paths)
         periods = int(re.search(r"^periods (\d+)", paths[0].read_text(), re.M).group(1))
-        long = periods > 48
-        said = (faults(page, "1200,1400", long) + faults(page, "1440,1400", periods > 96) + faults(page, "700,1400")
-                + pictures(page, periods))
+        # The table of the shifts of 48 letters under a group's name of 50 is wider than the smaller window.
+        small = "" if periods > 48 else "&lt;table" if name == "names" else None
+        said = (faults(page, "1200,1400", small) + faults(page, "1440,1400", "" if periods > 96 else None)
+                + faults(page, "700,1400") + pictures(page, periods))
         if name == "call_centre":
             (TOP / "docs/page.svg").write_text(picture(page))
         wrong += len(said)

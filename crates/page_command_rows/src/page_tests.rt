@@ -141,8 +141,8 @@ fn a_page_shows_its_roster(rt: HostRuntime) -> Result<(), Fail> {
 }
 
 /// What stands on other pages: of a call centre's shift under a floor and a ceiling, of 96 periods, of no
-/// roster, under labels, with letters that HTML has a use for, and with a name, time off and decimals, beside an
-/// old roster.
+/// roster, under labels, with letters that HTML has a use for, with times of whole hours and of a night, and with a
+/// name, time off and decimals, beside an old roster.
 const PAGES: &str = "
 ~ page g3 centre shift
 0 ..
@@ -176,6 +176,18 @@ viewBox='0 0 1088 66' width='1088' height='66'>
 ~ page halves groups staff team
 0 ..
 <text class='name' x='118' y='47'>full time</text>
+~ page g3 centre shift called
+0 ..
+<text class='tick' x='56' y='20'>7:00</text><text class='tick' x='116' y='20'>8:00</text>
+<text class='tick' x='716' y='127'>18:00</text><text class='tick' x='776' y='127'>19:00</text></svg>
+~ page day all_day long quarters
+0 ..
+<text class='tick' x='936' y='20'>22:00</text><text class='tick' x='976' y='20'>23:00</text>\
+<text class='tick' x='1016' y='20'>0:00 +1</text><g
+~ page g1 two best nights
+0 ..
+<text class='tick' x='56' y='20'>22:00</text><text class='tick' x='136' y='20'>0:00 +1</text>\
+<text class='tick' x='216' y='20'>2:00 +1</text><g
 ~ page split one night worked early
 0 ..
 <p>Nothing is proved of the cost.</p></header>

@@ -220,6 +220,10 @@ paid p yes
 clock 0:00 480
 paid p yes
 off .
+@ quarters
+clock 0:00 15
+@ nights
+clock 22:00 60
 @ worked
 clock 0:00 480
 off .
