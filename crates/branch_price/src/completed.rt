@@ -26,6 +26,9 @@ use std::alloc::Global;
 /// root.
 const EVERY: u32 = 4;
 
+/// The same on a wide day, where most nodes have the root's bound, and rosters are what is missing.
+const EVERY_WIDE: u32 = 2;
+
 /// How many passes over the graph the moves of a roster may take where it becomes no better, times the square
 /// of the number of its trees.
 const PASSES: u32 = 2;
@@ -61,8 +64,13 @@ pub(crate) struct Stage {
 }
 
 /// Says whether a roster is looked for by a dive at a node.
-fn dives_at(stage: &Stage, pool: &Pool) -> bool {
-    stage.processed % EVERY == 0 && pool.len() < FULL
+fn dives_at(graph: &Graph, stage: &Stage, pool: &Pool) -> bool {
+    let is_due = if is_wide(graph) {
+        stage.processed % EVERY_WIDE == 0
+    } else {
+        stage.processed % EVERY == 0
+    };
+    is_due && pool.len() < FULL
 }
 
 /// Returns what steers the moves of a roster at a node that has these prices; at the first node they may take
@@ -140,7 +148,7 @@ pub(crate) fn offer_begun<W: Watch>(
 }
 
 /// Offers the roster of the trees that a dive fixes, completed and exchanged. Says whether the dive is made:
-/// one that is dropped is, and one that fixes none is not.
+/// one that is dropped is, but on a wide day, and one that fixes none is not.
 fn offer_dived<W: Watch>(
     alloc: Global,
     node: &OpenNode,
@@ -156,6 +164,7 @@ fn offer_dived<W: Watch>(
     ensures { HasFound node.now.searched.day pool.old pool.new desk.new best.old best.new }
 {
     let day = &node.searched.day;
+    let is_made = !is_wide(day.graph);
     let start = DiveStart {
         last: &desk.handover.last,
         wanted: desk.handover.wanted.as_slice(),
@@ -164,7 +173,7 @@ fn offer_dived<W: Watch>(
     let short = &mut desk.moves.short;
     let found = dive(alloc, day, node.cuts, &start, cost, short, pool, watch)?;
     let Some(begun) = found else {
-        return Ok(true);
+        return Ok(is_made);
     };
     if begun.is_empty() {
         return Ok(false);
@@ -215,7 +224,7 @@ fn offer_kept<W: Watch>(
     let guide = priced_guide(day.graph, pool, &solved.prices, stage);
     let is_over = watch.is_over();
     if !is_over
-        && dives_at(stage, pool)
+        && dives_at(day.graph, stage, pool)
         && offer_dived(alloc, node, &guide, desk, pool, best, watch)?
     {
         return Ok(());
@@ -225,10 +234,11 @@ fn offer_kept<W: Watch>(
 }
 
 /// Offers a roster, unless the best one already costs no more than the bound that the node leaves: at the
-/// first node and at each fourth one after it that of the trees that a dive fixes, unless it is dropped; at
-/// the others, and where the dive fixes none, that of the solution's trees. Its trees are looked for over the
-/// arcs that a roster can have which costs less than the best one. Where the search is over it offers none
-/// but that of the solution's trees, and that only where there is no best one.
+/// first node and at each fourth one after it, on a wide day at each second one, that of the trees that a dive
+/// fixes, unless it is dropped; at the others, and where the dive fixes none, that of the solution's trees.
+/// Its trees are looked for over the arcs that a roster can have which costs less than the best one, on a wide
+/// day over all. Where the search is over it offers none but that of the solution's trees, and that only where
+/// there is no best one.
 ///
 /// # Errors
 ///

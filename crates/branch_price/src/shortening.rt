@@ -3,8 +3,10 @@ ghost use Rattle.branch_price.specs.Desks.{IsDesk};
 ghost use Rattle.branch_price.specs.Solutions.{CanShow};
 
 use crate::desk::SearchDesk;
+use crate::first::is_wide;
 use candidate_rosters::Roster;
 use master_rows::Day;
+use parse_graph::Graph;
 use roster_model::{Cut, Prices};
 
 /// Returns by how much a tree of a roster that costs less than this may be dearer than a cheapest one, at
@@ -16,8 +18,20 @@ fn above_at(cost: u64, value: u64, d: u64) -> i128 {
         .saturating_mul(i128::from(d))
 }
 
+/// Returns the best roster's cost where arcs are left out by it: not on a wide day, where rosters are looked for
+/// over all arcs.
+fn cost_to_pass(graph: &Graph, best: &Option<Roster>) -> Option<u64> {
+    if is_wide(graph) {
+        return None;
+    }
+    match best {
+        Some(roster) => Some(roster.cost),
+        None => None,
+    }
+}
+
 /// Keeps for dives and moves the arcs that a roster can have which costs less than the best one, where a
-/// node's prices show this value; without a best one it keeps all.
+/// node's prices show this value; without a best one, and on a wide day, it keeps all.
 pub(crate) fn shorten(
     day: &Day,
     cuts: &[Cut],
@@ -32,7 +46,7 @@ pub(crate) fn shorten(
     ensures desk { IsDesk day.now desk.new }
 {
     let short = &mut desk.moves.short;
-    let Some(roster) = best else {
+    let Some(cost) = cost_to_pass(day.graph, best) else {
         short.keep_all(day.graph);
         return;
     };
@@ -40,7 +54,7 @@ pub(crate) fn shorten(
     let cell = prices.cell.as_slice();
     let mult = prices.mult.as_slice();
     room.set_parts(day.instance, prices.d, cell, mult, cuts);
-    let above = above_at(roster.cost, value, prices.d);
+    let above = above_at(cost, value, prices.d);
     short.keep(day.graph, &*room, above);
 }
 
