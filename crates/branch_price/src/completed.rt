@@ -7,6 +7,7 @@ ghost use Rattle.branch_price.specs.Solutions.{CanShow};
 
 use crate::desk::SearchDesk;
 use crate::first::is_wide;
+use crate::holes::offer_holes;
 use crate::offered::offer_trees;
 use crate::open_node::OpenNode;
 use crate::rounded::push_wholes;
@@ -222,11 +223,12 @@ fn offer_kept<W: Watch>(
 {
     let day = &node.searched.day;
     let guide = priced_guide(day.graph, pool, &solved.prices, stage);
-    let is_over = watch.is_over();
-    if !is_over
-        && dives_at(day.graph, stage, pool)
-        && offer_dived(alloc, node, &guide, desk, pool, best, watch)?
-    {
+    let is_due = dives_at(day.graph, stage, pool) && !watch.is_over();
+    let prices = Some(&solved.prices);
+    if is_due && offer_holes(alloc, day, stage, prices, desk, best, watch)? {
+        return Ok(());
+    }
+    if is_due && offer_dived(alloc, node, &guide, desk, pool, best, watch)? {
         return Ok(());
     }
     let weights = solved.weights.as_slice();

@@ -8,6 +8,7 @@ use candidate_rosters::RosterDesk;
 use certificates::MOST_MULTIPLIERS;
 use master_rows::{Day, Pricing};
 use node_master::{Handover, Weight};
+use roster_holes::HoleSearch;
 use roster_model::{List, Memory};
 use roster_moves::ShortPricing;
 use split_probes::Gains;
@@ -33,6 +34,8 @@ pub(crate) struct SearchDesk {
     pub moves: ShortPricing,
     /// What is known of splits.
     pub splits: SplitHints,
+    /// The search for rosters by holes, once it was asked for.
+    pub holes: Option<HoleSearch>,
     /// Whether a first roster was looked for.
     pub has_first: bool,
 }
@@ -66,6 +69,7 @@ impl SearchDesk {
                 handover: Handover::new(alloc),
                 moves,
                 splits: SplitHints { gains, old },
+                holes: None,
                 has_first: false,
             }),
             Err(fault) => {

@@ -5,6 +5,7 @@ ghost use Rattle.branch_price.specs.Desks.{IsDesk, HasTried};
 
 use crate::completed::offer_begun;
 use crate::desk::SearchDesk;
+use crate::holes::offer_first_holes;
 use candidate_rosters::Roster;
 use master_rows::Day;
 use node_master::Pool;
@@ -104,7 +105,8 @@ pub(crate) fn offer_early<W: Watch>(
     if has_old || !is_wide(day.graph) {
         return Ok(());
     }
-    offer_first(alloc, day, desk, best, watch)
+    offer_first(alloc, day, desk, best, watch)?;
+    offer_first_holes(alloc, day, desk, best, watch)
 }
 
 /// Offers a first roster where the first node ends without prices and none was looked for before.

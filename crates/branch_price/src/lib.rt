@@ -15,6 +15,7 @@ mod desk;
 mod ended;
 mod first;
 mod found;
+mod holes;
 mod infeasible;
 mod job;
 mod leaf;

@@ -5,11 +5,12 @@ ghost use Rattle.branch_price.specs.Desks.{CanFind, HasFound};
 use crate::completed::{Stage, guide_of, offer_begun};
 use crate::desk::SearchDesk;
 use crate::first::missing_prices;
+use crate::holes::{best_shifts, offer_holes};
 use crate::shortening::keep_all;
 use candidate_rosters::{Roster, limit};
 use master_rows::Day;
 use node_master::{Cause, Pool};
-use roster_model::{Memory, Shift};
+use roster_model::Memory;
 use roster_moves::add_words;
 use search_watch::{Watch, Work};
 use std::alloc::Global;
@@ -18,14 +19,6 @@ use std::alloc::Global;
 /// first, and then ever more seldom.
 fn is_due(processed: u32) -> bool {
     processed & processed.saturating_sub(1) == 0
-}
-
-/// Returns the shifts of the best roster, and none where there is none.
-fn best_shifts(best: &Option<Roster>) -> &[Shift] {
-    match best {
-        Some(roster) => roster.shifts.as_slice(),
-        None => &[],
-    }
 }
 
 /// Offers the best roster, completed and made better by moves that no prices steer.
@@ -95,6 +88,9 @@ pub(crate) fn offer_without_prices<W: Watch>(
         return Ok(());
     };
     if !is_due(stage.processed) || limit(day.instance, best) <= stage.bound || watch.is_over() {
+        return Ok(());
+    }
+    if offer_holes(alloc, day, stage, None, desk, best, watch)? {
         return Ok(());
     }
     keep_all(day, desk);

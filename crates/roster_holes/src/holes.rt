@@ -17,6 +17,29 @@ pub(crate) const FIRST_PATIENCE: u32 = 40;
 /// How many passes are taken after trees of a hole were fixed.
 const STEP: u32 = 100;
 
+/// What a hole gains.
+#[derive(Clone, Copy, Drop)]
+enum Gain {
+    /// Nothing.
+    None,
+    /// The roster becomes better.
+    Own,
+    /// It becomes better than any known one.
+    Best,
+}
+
+/// Returns what a hole gains that makes a roster of this cost one of that cost, where the best known one costs
+/// so much.
+fn gain_of(before: u64, after: u64, known: u64) -> Gain {
+    if after >= before {
+        Gain::None
+    } else if after >= known {
+        Gain::Own
+    } else {
+        Gain::Best
+    }
+}
+
 /// How many passes holes may take, by the passes that were taken since the search began.
 #[derive(Clone, Copy, Drop)]
 pub(crate) struct Budget {
@@ -30,18 +53,21 @@ pub(crate) struct Budget {
     patience: u32,
     /// How many they are after a hole with gain.
     fresh: u32,
+    /// What the best known roster costs.
+    known: u64,
 }
 
 impl Budget {
     /// Returns a budget of so many passes, after so many were taken, and of so many holes in a row without
-    /// gain.
-    pub(crate) fn new(begun: u64, own: u64, patience: u32) -> Budget {
+    /// gain, where the best known roster costs so much.
+    pub(crate) fn new(begun: u64, own: u64, patience: u32, known: u64) -> Budget {
         Budget {
             begun,
             own,
             allowed: own,
             patience,
             fresh: patience,
+            known,
         }
     }
 
@@ -50,13 +76,20 @@ impl Budget {
         self.patience == 0 || count.saturating_sub(self.begun) >= self.allowed
     }
 
-    /// Notes a hole after which so many passes were taken: one with gain allows further ones.
-    fn note(&mut self, count: u64, has_gain: bool) {
-        if !has_gain {
-            self.patience = self.patience.saturating_sub(1);
-            return;
+    /// Notes a hole after which so many passes were taken: one with gain gives the patience back, and one
+    /// that makes the roster better than any known one allows further passes.
+    fn note(&mut self, count: u64, gain: Gain) {
+        match gain {
+            Gain::None => {
+                self.patience = self.patience.saturating_sub(1);
+                return;
+            }
+            Gain::Own => {
+                self.patience = self.fresh;
+                return;
+            }
+            Gain::Best => self.patience = self.fresh,
         }
-        self.patience = self.fresh;
         let taken = count.saturating_sub(self.begun);
         let further = (self.own / 2).max(taken / 2);
         let most = self.own.saturating_mul(3);
@@ -208,7 +241,8 @@ pub(crate) fn open_all<W: Watch>(
         let count = sizes.of(is_great).draw(&mut tools.ranking.draws);
         let filled = open_one(alloc, site, cost, count, tools, roster, watch)?;
         sizes.learn(is_great, cost, filled);
-        budget.note(tools.dive.passer.count, filled.cost < cost);
+        let gain = gain_of(cost, filled.cost, budget.known);
+        budget.note(tools.dive.passer.count, gain);
         cost = cost.min(filled.cost);
     }
     Ok(())

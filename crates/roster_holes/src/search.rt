@@ -27,7 +27,7 @@ const FIRST_DRAWS: u32 = 1_000_000;
 /// How many passes holes may take before the first master, at the first node, and at others.
 const PASSES_BEFORE: u64 = 8_000;
 
-const PASSES_FIRST: u64 = 60_000;
+const PASSES_FIRST: u64 = 40_000;
 
 const PASSES_LATER: u64 = 10_000;
 
@@ -206,7 +206,12 @@ fn search_first<W: Watch>(
     let mut roster = roster_of(alloc, site, task.shifts, &mut tools.dive)?;
     dive_from_nothing(alloc, site, 1, goal, &mut tools.dive, &mut roster, watch)?;
     tools.ranking.draws = Draws::of_turn(FIRST_DRAWS);
-    let budget = Budget::new(tools.dive.passer.count, PASSES_BEFORE, FIRST_PATIENCE);
+    let budget = Budget::new(
+        tools.dive.passer.count,
+        PASSES_BEFORE,
+        FIRST_PATIENCE,
+        task.cost,
+    );
     open_all(alloc, site, goal, budget, tools, &mut roster, watch)?;
     Ok(roster)
 }
@@ -226,7 +231,12 @@ fn search_at<W: Watch>(
     } else {
         PATIENCE
     };
-    let budget = Budget::new(tools.dive.passer.count, passes_at(task.turn), patience);
+    let budget = Budget::new(
+        tools.dive.passer.count,
+        passes_at(task.turn),
+        patience,
+        task.cost,
+    );
     let shifts: &[Shift] = if is_first { &[] } else { task.shifts };
     let dives = if is_first { DIVES } else { 0 };
     let mut roster = roster_of(alloc, site, shifts, &mut tools.dive)?;
