@@ -7,14 +7,14 @@ ghost use Rattle.branch_price.specs.Solutions.{CanShow};
 
 use crate::desk::SearchDesk;
 use crate::first::is_wide;
-use crate::holes::offer_holes;
+use crate::holes::{HolePlace, offer_holes};
 use crate::offered::offer_trees;
 use crate::open_node::OpenNode;
 use crate::rounded::push_wholes;
 use crate::shortening::shorten;
 use crate::solved::Solved;
 use candidate_rosters::{Roster, limit};
-use dives::{DiveStart, dive};
+use dives::{Asks, DiveStart, dive};
 use master_rows::Day;
 use node_master::{FULL, Pool, Weight};
 use parse_graph::Graph;
@@ -148,8 +148,17 @@ pub(crate) fn offer_begun<W: Watch>(
     )
 }
 
+/// Returns how a dive asks for trees on a day.
+fn asks_on(graph: &Graph) -> Asks {
+    if is_wide(graph) {
+        Asks::Single
+    } else {
+        Asks::Several
+    }
+}
+
 /// Offers the roster of the trees that a dive fixes, completed and exchanged. Says whether the dive is made:
-/// one that is dropped is, but on a wide day, and one that fixes none is not.
+/// one that is dropped is, and one that fixes none is not.
 fn offer_dived<W: Watch>(
     alloc: Global,
     node: &OpenNode,
@@ -165,16 +174,16 @@ fn offer_dived<W: Watch>(
     ensures { HasFound node.now.searched.day pool.old pool.new desk.new best.old best.new }
 {
     let day = &node.searched.day;
-    let is_made = !is_wide(day.graph);
     let start = DiveStart {
         last: &desk.handover.last,
         wanted: desk.handover.wanted.as_slice(),
+        asks: asks_on(day.graph),
     };
     let cost = limit(day.instance, best);
     let short = &mut desk.moves.short;
     let found = dive(alloc, day, node.cuts, &start, cost, short, pool, watch)?;
     let Some(begun) = found else {
-        return Ok(is_made);
+        return Ok(true);
     };
     if begun.is_empty() {
         return Ok(false);
@@ -203,8 +212,36 @@ fn offer_completed<W: Watch>(
     offer_begun(alloc, day, begun.as_slice(), guide, desk, pool, best, watch)
 }
 
-/// Offers a roster at a node over the arcs that are kept: of the trees that a dive fixes, where one is due
-/// and made, or else of the solution's trees.
+/// Offers a roster at a node where more than completion is due: by holes on a wide day, or where these give none
+/// that becomes the best one, of the trees that a dive fixes. Says whether one was offered so, or the dive was
+/// dropped.
+fn offer_due<W: Watch>(
+    alloc: Global,
+    node: &OpenNode,
+    guide: &Guide,
+    desk: &mut SearchDesk,
+    pool: &mut Pool,
+    best: &mut Option<Roster>,
+    watch: &W,
+) -> Result<bool, Memory>
+    requires node { IsOpenNode node.now }
+    requires small { IsSmall node.now.searched.day.instance.now node.now.cuts.now }
+    requires find { CanFind node.now.searched.day pool.old desk.old best.old }
+    ensures { HasFound node.now.searched.day pool.old pool.new desk.new best.old best.new }
+{
+    let place = HolePlace {
+        turn: guide.turn,
+        bound: guide.goal,
+        prices: Some(guide.prices),
+    };
+    if offer_holes(alloc, &node.searched.day, &place, desk, best, watch)? {
+        return Ok(true);
+    }
+    offer_dived(alloc, node, guide, desk, pool, best, watch)
+}
+
+/// Offers a roster at a node over the arcs that are kept: by holes or of the trees that a dive fixes, where one
+/// is due and made, or else of the solution's trees.
 fn offer_kept<W: Watch>(
     alloc: Global,
     node: &OpenNode,
@@ -223,12 +260,11 @@ fn offer_kept<W: Watch>(
 {
     let day = &node.searched.day;
     let guide = priced_guide(day.graph, pool, &solved.prices, stage);
-    let is_due = dives_at(day.graph, stage, pool) && !watch.is_over();
-    let prices = Some(&solved.prices);
-    if is_due && offer_holes(alloc, day, stage, prices, desk, best, watch)? {
-        return Ok(());
-    }
-    if is_due && offer_dived(alloc, node, &guide, desk, pool, best, watch)? {
+    let is_over = watch.is_over();
+    if !is_over
+        && dives_at(day.graph, stage, pool)
+        && offer_due(alloc, node, &guide, desk, pool, best, watch)?
+    {
         return Ok(());
     }
     let weights = solved.weights.as_slice();
@@ -237,7 +273,8 @@ fn offer_kept<W: Watch>(
 
 /// Offers a roster, unless the best one already costs no more than the bound that the node leaves: at the
 /// first node and at each fourth one after it, on a wide day at each second one, that of the trees that a dive
-/// fixes, unless it is dropped; at the others, and where the dive fixes none, that of the solution's trees.
+/// fixes, unless it is dropped, and on a wide day first one by holes; at the others, and where the dive fixes
+/// none, that of the solution's trees.
 /// Its trees are looked for over the arcs that a roster can have which costs less than the best one, on a wide
 /// day over all. Where the search is over it offers none but that of the solution's trees, and that only where
 /// there is no best one.

@@ -4,7 +4,6 @@ ghost use Rattle.candidate_rosters.specs.Rosters.{IsGoodRoster};
 ghost use Rattle.roster_holes.specs.Found.{AreSoundShifts};
 ghost use Rattle.branch_price.specs.Desks.{CanOffer, HasOffered, IsDesk, HasTried};
 
-use crate::completed::Stage;
 use crate::desk::SearchDesk;
 use crate::first::is_wide;
 use candidate_rosters::{Roster, RosterDesk, limit, offer, roster_again};
@@ -22,13 +21,29 @@ pub(crate) fn best_shifts(best: &Option<Roster>) -> &[Shift] {
     }
 }
 
-/// Returns what holes are opened for at a stage of a search.
-fn task_of<'a>(instance: &Instance, stage: &Stage, best: &'a Option<Roster>) -> HoleTask<'a> {
+/// Where a search opens holes.
+#[derive(Clone, Copy, Drop)]
+pub(crate) struct HolePlace<'a> {
+    /// How many nodes were processed before.
+    pub turn: u32,
+    /// The bound that the node leaves.
+    pub bound: u64,
+    /// The node's prices, where it has some.
+    pub prices: Option<&'a Prices>,
+}
+
+/// Returns what holes are opened for.
+fn task_of<'a>(
+    instance: &Instance,
+    turn: u32,
+    bound: u64,
+    best: &'a Option<Roster>,
+) -> HoleTask<'a> {
     HoleTask {
         shifts: best_shifts(best),
         cost: limit(instance, best),
-        bound: stage.bound,
-        turn: stage.processed,
+        bound,
+        turn,
     }
 }
 
@@ -113,7 +128,7 @@ fn offer_found(
     Ok(limit(instance, best) < before)
 }
 
-/// Offers a roster by holes at a node, at its prices. Says whether it becomes the best one.
+/// Offers a roster by holes at a node of a wide day. Says whether it becomes the best one.
 ///
 /// # Errors
 ///
@@ -121,8 +136,7 @@ fn offer_found(
 pub(crate) fn offer_holes<W: Watch>(
     alloc: Global,
     day: &Day,
-    stage: &Stage,
-    prices: Option<&Prices>,
+    place: &HolePlace,
     desk: &mut SearchDesk,
     best: &mut Option<Roster>,
     watch: &W,
@@ -136,8 +150,8 @@ pub(crate) fn offer_holes<W: Watch>(
         return Ok(false);
     }
     watch.tell(Work::Rosters);
-    let task = task_of(day.instance, stage, best);
-    let found = found_at_node(alloc, day, &task, prices, &mut desk.holes, watch)?;
+    let task = task_of(day.instance, place.turn, place.bound, best);
+    let found = found_at_node(alloc, day, &task, place.prices, &mut desk.holes, watch)?;
     let offered = offer_found(alloc, day.instance, &found, &mut desk.rosters, best);
     drop(found);
     offered
@@ -160,12 +174,7 @@ pub(crate) fn offer_first_holes<W: Watch>(
     requires good { IfSome best.old (IsGoodRoster day.now.instance.now) }
     ensures { HasTried day.now desk.new best.old best.new }
 {
-    let stage = Stage {
-        processed: 0,
-        bound: 0,
-        value: 0,
-    };
-    let task = task_of(day.instance, &stage, best);
+    let task = task_of(day.instance, 0, 0, best);
     let found = found_first(alloc, day, &task, &mut desk.holes, watch)?;
     let offered = offer_found(alloc, day.instance, &found, &mut desk.rosters, best);
     drop(found);

@@ -5,7 +5,7 @@ ghost use Rattle.branch_price.specs.Desks.{CanFind, HasFound};
 use crate::completed::{Stage, guide_of, offer_begun};
 use crate::desk::SearchDesk;
 use crate::first::missing_prices;
-use crate::holes::{best_shifts, offer_holes};
+use crate::holes::{HolePlace, best_shifts, offer_holes};
 use crate::shortening::keep_all;
 use candidate_rosters::{Roster, limit};
 use master_rows::Day;
@@ -90,7 +90,12 @@ pub(crate) fn offer_without_prices<W: Watch>(
     if !is_due(stage.processed) || limit(day.instance, best) <= stage.bound || watch.is_over() {
         return Ok(());
     }
-    if offer_holes(alloc, day, stage, None, desk, best, watch)? {
+    let place = HolePlace {
+        turn: stage.processed,
+        bound: stage.bound,
+        prices: None,
+    };
+    if offer_holes(alloc, day, &place, desk, best, watch)? {
         return Ok(());
     }
     keep_all(day, desk);

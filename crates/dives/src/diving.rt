@@ -29,9 +29,6 @@ use tree_pool::Pool;
 /// How many steps a dive takes.
 const STEPS: u32 = 200;
 
-/// How often trees are asked for in a step. With five times nine days took 56 seconds in place of 41.
-const ROUNDS: u32 = 10;
-
 /// A dive takes no further step once it has touched so many times an entry for each pair of rows and an arc
 /// of the graph: with a full inverse that is as many pivots, and as many passes. It is there so that no dive
 /// takes a search's time. Other numbers were not tried.
@@ -77,7 +74,7 @@ fn solve<W: Watch>(
     ensures program { OnOk result (IsProgram (length pool.new) descent.new.program) }
     ensures tools { StayTools task.now order.new pool.old pool.new descent.new.desk }
 {
-    for _ in 0..ROUNDS {
+    for _ in 0..descent.program.asks.rounds() {
         if !run(&mut descent.program, watch) {
             return Ok(false);
         }
@@ -215,7 +212,7 @@ fn begun_with(
     requires { IsTask task.now }
     ensures { IfOk result (IsProgram (length pool.now)) }
 {
-    let mut program = Program::new(alloc, task)?;
+    let mut program = Program::new(alloc, task, start.asks)?;
     match begin(alloc, task, pool, start, &mut program) {
         Ok(()) => Ok(program),
         Err(fault) => {

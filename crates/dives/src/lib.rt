@@ -17,4 +17,4 @@ mod widths;
 
 pub use diving::dive;
 pub use rows::{list_places, scout_of};
-pub use start::DiveStart;
+pub use start::{Asks, DiveStart};

@@ -3,6 +3,7 @@ ghost use Rattle.master_rows.specs.node_task.Tasks.{IsTask};
 ghost use Rattle.dives.specs.Parts.{IsProgram};
 
 use crate::rows::{list_places, scout_of, take_places};
+use crate::start::Asks;
 use crate::sums::{ONE, add, clear};
 use master_rows::{NodeRows, NodeTask};
 use parse_graph::Graph;
@@ -24,6 +25,8 @@ const PRICE: i128 = 256;
 /// A node's program less the trees that are fixed.
 #[derive(Drop)]
 pub(crate) struct Program {
+    /// How trees are asked for.
+    pub asks: Asks,
     /// The program at a scout.
     pub scout: Scout,
     /// Its right sides.
@@ -65,13 +68,14 @@ impl Program {
     /// # Errors
     ///
     /// `Memory` where memory runs out; nothing is kept then.
-    pub fn new(alloc: Global, task: &NodeTask) -> Result<Program, Memory>
+    pub fn new(alloc: Global, task: &NodeTask, asks: Asks) -> Result<Program, Memory>
         requires { IsTask task.now }
         ensures { (n : ℕ) → IfOk result (IsProgram n) }
     {
         let sides = copy_of(alloc, task.rows.right())?;
         match scout_of(alloc, task, 0) {
             Ok(scout) => Ok(Program {
+                asks,
                 scout,
                 sides,
                 listed: List::new(alloc),

@@ -1,7 +1,7 @@
 use Rattle.branch_price.specs.Desks.{HasFound}
 use Rattle.branch_price.proofs.ToolsLemmas.{same-find, find-later, more-found}
 use Rattle.branch_price.proofs.completed.offer_kept.Goals as goal
-use Rattle.branch_price.proofs.completed.offer_kept.Goals.{else-not-is_over-via-then-not-is_over+then-dives_at+in_ok-offer_dived+else-branch, else-not-is_over-via-then-not-is_over+else-dives_at, else-not-is_over-via-else-not-is_over}
+use Rattle.branch_price.proofs.completed.offer_kept.Goals.{else-not-is_over-via-then-not-is_over+then-dives_at+in_ok-offer_due+else-branch, else-not-is_over-via-then-not-is_over+else-dives_at, else-not-is_over-via-else-not-is_over}
 
 pub offer_completed-requires-clause-find : goal.offer_completed-requires-clause-find
 offer_completed-requires-clause-find g c =
@@ -11,7 +11,7 @@ offer_completed-requires-clause-find g c =
     let same = same-find d old c.args.desk.now best c.requires.find in
     let now = c.else-not-is_over in
     let dived : HasFound d old now.pool now.desk best now.best = elim c.else-not-is_over.branch [
-      | else-not-is_over-via-then-not-is_over+then-dives_at+in_ok-offer_dived+else-branch w ↦ rw (w.desk-is, w.pool-is, w.best-is) w.offer_dived.ensures
+      | else-not-is_over-via-then-not-is_over+then-dives_at+in_ok-offer_due+else-branch w ↦ rw (w.desk-is, w.pool-is, w.best-is) w.offer_due.ensures
       | else-not-is_over-via-then-not-is_over+else-dives_at w ↦ rw (w.desk-is, w.pool-is, w.best-is) same
       | else-not-is_over-via-else-not-is_over w ↦ rw (w.desk-is, w.pool-is, w.best-is) same
     ] in
@@ -25,7 +25,7 @@ returns g c =
     let same = same-find d old c.args.desk.now best c.requires.find in
     let now = c.else-not-is_over in
     let dived : HasFound d old now.pool now.desk best now.best = elim c.else-not-is_over.branch [
-      | else-not-is_over-via-then-not-is_over+then-dives_at+in_ok-offer_dived+else-branch w ↦ rw (w.desk-is, w.pool-is, w.best-is) w.offer_dived.ensures
+      | else-not-is_over-via-then-not-is_over+then-dives_at+in_ok-offer_due+else-branch w ↦ rw (w.desk-is, w.pool-is, w.best-is) w.offer_due.ensures
       | else-not-is_over-via-then-not-is_over+else-dives_at w ↦ rw (w.desk-is, w.pool-is, w.best-is) same
       | else-not-is_over-via-else-not-is_over w ↦ rw (w.desk-is, w.pool-is, w.best-is) same
     ] in
