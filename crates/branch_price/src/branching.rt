@@ -12,7 +12,7 @@ ghost use Rattle.search_watch.specs.Within.{IsWithin};
 
 use crate::arcless::search_arcless;
 use crate::desk::{SearchBench, SearchDesk};
-use crate::ended::{closed_end, found, halted};
+use crate::ended::{closed_end, found, halted, halted_at_root};
 use crate::first::offer_early;
 use crate::found::Found;
 use crate::infeasible::{derived, no_roster};
@@ -104,6 +104,9 @@ fn search_along<M: Master, W: Watch>(
             TurnEnd::Done => {}
             TurnEnd::Stopped(leaf) => {
                 return halted(alloc, job.searched.day.instance, progress, leaf);
+            }
+            TurnEnd::StoppedAtRoot(root) => {
+                return halted_at_root(alloc, job.searched.day.instance, progress.best, root);
             }
         }
     }

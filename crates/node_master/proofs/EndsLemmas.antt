@@ -177,7 +177,7 @@ given_up i cuts Listed pool calm old new (LpWide f) r sound node few belongs h e
 given_up i cuts Listed pool calm old new (LpSpent n) r sound node few belongs h e = rw e (λ a b is. (few, h.0, spent_risen a b is, h.2))
 given_up i cuts Listed pool calm old new LpMemory (Ok x) sound node few belongs h e = absurd (true≢false (sym e))
 given_up i cuts Listed pool calm old new LpMemory (Err x) sound node few belongs h e = tt
-given_up i cuts Listed pool calm old new LpStopped r sound node few belongs h e = rw e (λ a b is. (h, is))
+given_up i cuts Listed pool calm old new LpStopped r sound node few belongs h e = rw e (λ a b is. (h, is, tt))
 
 -- ---- counts
 pub rises : (a b c : ℕ) → a ≤ b → HasRisen b c → HasRisen a c
