@@ -1,6 +1,5 @@
 -- Prices of the root, where the first turn of a search is stopped.
 use Rattle.std.proofs.Common.{◌≡◌, ℕ, arith, ◌≤◌, ◌<◌, Bool, IsTrue, Option, None, Some, List, [], ◌∷◌, refl, sym, subst, ap, inr}
-use Rattle.roster_model.specs.declared.grammar.ArcKey.{ArcKey}
 use Rattle.roster_model.specs.declared.instance.Cut.{Cut}
 use Rattle.roster_model.specs.declared.instance.Done.TheVariants.{TurnsOut}
 use Rattle.roster_model.specs.declared.instance.Instance.{Instance}
@@ -12,7 +11,7 @@ use Rattle.bound_laws.specs.Infeasible.{IsPlainlyInfeasible}
 use Rattle.certificates.specs.declared.cert.Node.TheVariants.{Priced}
 use Rattle.certificates.specs.Nodes.{priced}
 use Rattle.certificates.specs.certificate_laws.Accepted.{bound_number}
-use Rattle.certificates.specs.growing_laws.Grown.{Grown, tip, fork, Leaf, Own, busy}
+use Rattle.certificates.specs.growing_laws.Grown.{Grown, tip, fork, Leaf, fresh, busy}
 use Rattle.certificates.specs.growing_laws.States.{IsLoosePath}
 use Rattle.parse_graph.specs.Graphs.{GraphView}
 use Rattle.open_nodes.specs.declared.leaf.OpenLeaf.{OpenLeaf}
@@ -41,7 +40,7 @@ pub stopped-root : (i : Instance) (v : GraphView) (strict : Bool) (before now lo
     → IsStoppedAtRoot i patient p p root
 stopped-root i v strict before now low patient p leaf cuts root asked restless none busy loose shown =
     let processed = asked.is.tree.processed in
-    let path : cuts ≡ base_cuts i = root-path (base_cuts i) asked.tree leaf.kept.seat leaf.bound cuts _ (omega (arith, none, processed)) asked.place in
+    let path : cuts ≡ base_cuts i = root-path (base_cuts i) asked.tree leaf.kept.seat leaf.bound cuts fresh (omega (arith, none, processed)) asked.place in
     record {
       restless = restless;
       halted = record {
@@ -97,7 +96,7 @@ module _ (i : Instance) (sound : IsSoundInstance i) (best : Option Roster) (root
         most = small;
         ascending = says.ascending;
         whole = inr (record { none = refl; prices = root.prices; nodes = refl; few = is.shown.few; done = refl });
-        loose = λ busy. (is.loose, tt);
+        loose = λ h. (is.loose, tt);
         infeasible = λ h. absurd (is.busy h);
         arcless = λ none. absurd (none is.loose.0 is.loose.1.0);
         processed = refl;
