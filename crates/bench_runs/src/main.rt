@@ -133,7 +133,7 @@ fn print_end(rt: &HostRuntime, root: &RootEnd) -> io::Result<()> {
         }
         NodeEnd::Near { weights, .. } => println!(rt; "near, weights {}", weights.len()),
         NodeEnd::Failed(cause) => println!(rt; "{cause:?}"),
-        NodeEnd::Stopped => println!(rt; "stopped"),
+        NodeEnd::Stopped(_) => println!(rt; "stopped"),
     }
 }
 

@@ -216,17 +216,19 @@ module _ (i : Instance) (sound : IsSoundInstance i) (a : AsksEnd i) (p : Progres
     shows = shows-bound;
     most = is.small;
     ascending = says.ascending;
-    each = each-found i a.strict (limit_of i p.best) is.low (length p.tree.seats) is.tree is.final.growing (bound_number i bound) is.shows;
-    sharp = subst (λ (x : Option ℕ). Each (λ (v : Visit). IsSharpNode i (bound_number i x) v v.node) (visits (base_cuts i) (proof_of is.tree))) (sym (same-cost p.best shifts cost said))
-        (each-sharp i a.strict (limit_of i p.best) is.low (length p.tree.seats) is.tree is.final.growing is.final.leaves);
+    whole = inl (record {
+      each = each-found i a.strict (limit_of i p.best) is.low (length p.tree.seats) is.tree is.final.growing (bound_number i bound) is.shows;
+      sharp = subst (λ (x : Option ℕ). Each (λ (v : Visit). IsSharpNode i (bound_number i x) v v.node) (visits (base_cuts i) (proof_of is.tree))) (sym (same-cost p.best shifts cost said))
+          (each-sharp i a.strict (limit_of i p.best) is.low (length p.tree.seats) is.tree is.final.growing is.final.leaves);
+      within = let w = is.within in omega (arith, busy_is, w);
+      ran_out = λ e. let s = is.spent e in record { all = busy_is ∙ s.all; few = s.few };
+    });
     loose = λ busy. each-loose i a.strict (limit_of i p.best) is.low (length p.tree.seats) is.tree is.final.growing;
     infeasible = λ h. absurd (is.busy h);
     arcless = λ none. all ∙ ap preorder (is.arcless none);
     processed = busy_is ∙ is.final.processed ∙ sym (grown-counts is.tree).0 ∙ ap (count kinds.is_processed) (sym all);
     failed = missed_is ∙ is.final.failed ∙ sym (grown-counts is.tree).1 ∙ ap (count kinds.is_unpriced) (sym all);
-    within = let w = is.within in omega (arith, busy_is, w);
     done = done-of (record { shifts = shifts; cost = cost; bound = bound; nodes = nodes }) done (subst (λ (x : Option ℕ). IsDoneAt x bound done) (sym (same-cost p.best shifts cost said)) is.ended);
-    ran_out = λ e. let s = is.spent e in record { all = busy_is ∙ s.all; few = s.few };
     start = λ has. subst (λ (x : Option ℕ). IsAtMostStart i x) (sym (same-cost p.best shifts cost said)) (start-of i p.best (is.final.start has));
   }
 

@@ -27,8 +27,9 @@ use Rattle.candidate_rosters.specs.Offers.{limit_of}
 use Rattle.branch_price.specs.declared.progress.Progress.{Progress}
 use Rattle.branch_price.specs.Searching.{site_of}
 use Rattle.branch_price.specs.declared.turn_end.TurnEnd.{TurnEnd}
-use Rattle.branch_price.specs.declared.turn_end.TurnEnd.TheVariants.{Done, Stopped}
-use Rattle.branch_price.specs.Steps.{AsksTurn, AsksNode, AsksHalf, IsTurned, IsStopped, EndsTurn}
+use Rattle.branch_price.specs.declared.turn_end.TurnEnd.TheVariants.{Done, Stopped, StoppedAtRoot}
+use Rattle.branch_price.specs.declared.turn_end.RootPrices.{RootPrices}
+use Rattle.branch_price.specs.Steps.{AsksTurn, AsksNode, AsksHalf, IsTurned, IsStopped, IsStoppedAtRoot, EndsTurn}
 use Rattle.certificates.specs.declared.growing_laws.seat.Seat.{Seat}
 use Rattle.branch_price.proofs.NodeCuts.{IsGoodCut, path-cuts, path-based, base-good, base-few}
 use Rattle.parse_graph.specs.Graphs.{GraphView}
@@ -187,9 +188,18 @@ half-stopped i v strict before now later low patient old new last half left aske
   falls = let f = stopped.falls in let e = ap (limit_of i) asked.best in omega (arith, f, e);
 }
 
+pub half-stopped-root : (i : Instance) (v : GraphView) (strict : Bool) (before now low : ℕ) (patient : Bool) (old new last : Progress) (half : OpenLeaf) (root : RootPrices)
+    → AsksHalf i v strict before now low old new half → IsStoppedAtRoot i patient new last root → IsStoppedAtRoot i patient old last root
+half-stopped-root i v strict before now low patient old new last half root asked stopped = record {
+  restless = stopped.restless;
+  halted = stopped.halted;
+  falls = let f = stopped.falls in let e = ap (limit_of i) asked.best in omega (arith, f, e);
+}
+
 -- a turn of the half is one of the leaf
 pub half-ends : (i : Instance) (v : GraphView) (strict : Bool) (before now later low : ℕ) (patient : Bool) (old new last : Progress) (half : OpenLeaf) (end : TurnEnd)
     → AsksHalf i v strict before now low old new half → EndsTurn i v strict before later low patient new last end
     → EndsTurn i v strict before later low patient old last end
 half-ends i v strict before now later low patient old new last half Done asked turned = half-turned i v strict before now later low old new last half asked turned
 half-ends i v strict before now later low patient old new last half (Stopped left) asked stopped = half-stopped i v strict before now later low patient old new last half left asked stopped
+half-ends i v strict before now later low patient old new last half (StoppedAtRoot root) asked stopped = half-stopped-root i v strict before now low patient old new last half root asked stopped

@@ -8,6 +8,7 @@ pub mod OpenPaths
 pub mod PinnedCounts
 pub mod SoundEnds
 pub mod FoundLemmas
+pub mod HaltedRoots
 pub mod PlainPrices
 pub mod OneNode
 pub mod OldLemmas

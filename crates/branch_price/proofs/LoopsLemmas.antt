@@ -24,7 +24,8 @@ use Rattle.candidate_rosters.specs.Offers.{limit_of, cost_of}
 use Rattle.candidate_rosters.proofs.Limits.{cost-most, limit-most}
 use Rattle.branch_price.specs.declared.progress.Progress.{Progress}
 use Rattle.branch_price.specs.Searching.{site_of, IsSearching}
-use Rattle.branch_price.specs.Steps.{AsksTurn, IsTurned, IsStopped, IsBegun}
+use Rattle.branch_price.specs.declared.turn_end.RootPrices.{RootPrices}
+use Rattle.branch_price.specs.Steps.{AsksTurn, IsTurned, IsStopped, IsStoppedAtRoot, IsBegun}
 use Rattle.branch_price.specs.Ends.{IsNext, AsksEnd, IsEnd, IsEndOf, IsHalted, IsDoneAt, IsClosedBy}
 use Rattle.branch_price.specs.Loops.{IsLooping}
 use Rattle.branch_price.specs.Found.{HasNoArc}
@@ -154,6 +155,15 @@ module _ (i : Instance) (v : GraphView) (strict : Bool) (before now turns : ℕ)
       let f = (turned (asks-turn same e apart)).falls in
       let s = ap (limit_of i) next.best in
       λ x costs. let r = reach x costs in omega (arith, f, s, r)
+
+  -- a first turn that was stopped leaves prices of the root
+  pub turn-halts-at-root : (same : Bool) → same ≡ strict → p.tree.processed ≢ turns → (later : ℕ) (patient : Bool) (new : Progress) (root : RootPrices)
+      → (AsksTurn i v same now p leaf → IsStoppedAtRoot i patient p new root) → IsStoppedAtRoot i patient old new root
+  turn-halts-at-root same e apart later patient new root turned =
+      let t = turned (asks-turn same e apart) in
+      let f = t.falls in
+      let s = ap (limit_of i) next.best in
+      record { restless = t.restless; halted = t.halted; falls = omega (arith, f, s) }
 
   -- a turn that was stopped leaves a search with a leaf in hand
   pub turn-halts : (same : Bool) → same ≡ strict → p.tree.processed ≢ turns → (later : ℕ) (patient : Bool) (new : Progress) (left : OpenLeaf)

@@ -1,5 +1,5 @@
 -- What is found costs no more than an old roster that is allowed on the day.
-use Rattle.std.proofs.Common.{◌≡◌, ℕ, arith, ◌≤◌, Bool, true, Option, None, Some, IfSome, List, refl, subst, ap}
+use Rattle.std.proofs.Common.{◌≡◌, ℕ, arith, ◌≤◌, Bool, true, Option, None, Some, IfSome, List, refl, subst, ap, ◌⊎◌, inl, inr}
 use Rattle.std.specs.Prelude.{IsSome}
 use Rattle.roster_model.specs.declared.instance.Done.{Done}
 use Rattle.roster_model.specs.declared.instance.Done.TheVariants.{Equal, NoRoster, TurnsOut}
@@ -18,7 +18,7 @@ use Rattle.candidate_rosters.specs.Offers.{limit_of, cost_of}
 use Rattle.candidate_rosters.specs.Rosters.{CostsAtMost}
 use Rattle.branch_price.specs.declared.found.Found.{Found}
 use Rattle.branch_price.specs.Ends.{IsStatedBy}
-use Rattle.branch_price.specs.Found.{IsDone, IsFound}
+use Rattle.branch_price.specs.Found.{IsDone, IsWhole, IsStoppedRoot, IsFound}
 use Rattle.branch_price.specs.OldRosters.{IsNoDearerThan, ReachesOld}
 
 -- what is stated of the best roster is its cost
@@ -57,6 +57,14 @@ closed_no_dearer i c right Equal is left shifts = least_cost i c.cost c.bound is
 closed_no_dearer i c right NoRoster is left shifts = λ x costs. absurd (right.none is.1 (duties shifts) x costs)
 closed_no_dearer i c right TurnsOut is left shifts = absurd (left refl)
 
+-- what is found in a turn or more, and where all turns were used
+used-up : (i : Instance) (strict : Bool) (turns : ℕ) (f : Found) → 1 ≤ turns → IsFound i strict turns f → f.done ≡ TurnsOut → f.processed ≡ turns
+used-up i strict turns f some is left = by is.whole
+  where
+    by : IsWhole i strict turns f is.proof ⊎ IsStoppedRoot turns f → f.processed ≡ turns
+    by (inl whole) = (whole.ran_out left).all
+    by (inr root) = let none = root.none in absurd (omega (arith, some, none))
+
 -- what is found in whatever number of turns is closed
 pub found-no-dearer : (i : Instance) → IsSoundInstance i → (f : Found) → ((strict : Bool) (turns : ℕ) → 1 ≤ turns → IsFound i strict turns f) → (shifts : List Shift)
     → IsNoDearerThan i shifts f.cert.cost
@@ -64,4 +72,4 @@ found-no-dearer i sound f found shifts =
     let one = found true 1 (omega arith) in
     let two = found true 2 (omega arith) in
     closed_no_dearer i f.cert (yes-is-sound i sound f.cert one.sound one.accepted) f.done one.done
-    (λ left. let a = (one.ran_out left).all in let b = (two.ran_out left).all in omega (arith, a, b)) shifts
+    (λ left. let a = used-up i true 1 f (omega arith) one left in let b = used-up i true 2 f (omega arith) two left in omega (arith, a, b)) shifts

@@ -152,16 +152,18 @@ module _ (i : Instance) (infeasible : IsPlainlyInfeasible i) where
         shows = value;
         most = tt;
         ascending = tt;
-        each = (plain-prices sound p (record { path = base_cuts i; node = Priced p }) is.0, tt);
-        sharp = (inl (λ x known. let e = one-priced i p (base_cuts i) x (greatest_cost i + 1) known value in omega (arith, e)), tt);
+        whole = inl (record {
+          each = (plain-prices sound p (record { path = base_cuts i; node = Priced p }) is.0, tt);
+          sharp = (inl (λ x known. let e = one-priced i p (base_cuts i) x (greatest_cost i + 1) known value in omega (arith, e)), tt);
+          within = some;
+          ran_out = λ e. absurd (cc);
+        });
         loose = λ busy. absurd (busy infeasible);
         infeasible = λ h. record { nodes = refl; processed = refl; done = refl };
         arcless = λ none. absurd (is.2 none);
         processed = refl;
         failed = refl;
-        within = some;
         done = (refl, refl);
-        ran_out = λ e. absurd (cc);
         start = λ start. absurd (no-start i infeasible start);
       }
   one-node sound strict turns some Pinned is =
@@ -188,15 +190,12 @@ module _ (i : Instance) (infeasible : IsPlainlyInfeasible i) where
         shows = value;
         most = tt;
         ascending = tt;
-        each = (tt, tt);
-        sharp = (tt, tt);
+        whole = inl (record { each = (tt, tt); sharp = (tt, tt); within = some; ran_out = λ e. absurd (cc) });
         loose = λ busy. (tt, tt);
         infeasible = λ h. record { nodes = refl; processed = refl; done = refl };
         arcless = λ none. refl;
         processed = refl;
         failed = refl;
-        within = some;
         done = (refl, refl);
-        ran_out = λ e. absurd (cc);
         start = λ start. absurd (no-start i infeasible start);
       }

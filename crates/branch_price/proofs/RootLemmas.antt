@@ -1,5 +1,5 @@
 -- What a search finds of a day without arcs: its one node is pinned.
-use Rattle.std.proofs.Common.{true≢false, ◌≡◌, ℕ, arith, ◌≤◌, Bool, true, false, Option, None, Some, IfSome, List, [], ◌∷◌, length, refl, sym, subst}
+use Rattle.std.proofs.Common.{true≢false, ◌≡◌, ℕ, arith, ◌≤◌, Bool, true, false, Option, None, Some, IfSome, List, [], ◌∷◌, length, refl, sym, subst, inl}
 use Rattle.std.specs.Cmp.{unsigned_Decides}
 use Rattle.std.specs.Prelude.{◌≢◌, ◌==◌}
 use Rattle.std.proofs.lemmas.List.{append-nil}
@@ -114,16 +114,13 @@ module _ (i : Instance) (sound : IsSoundInstance i) (busy : IsPlainlyInfeasible 
           shows = value;
           most = small;
           ascending = says.ascending;
-          each = (tt, tt);
-          sharp = (tt, tt);
+          whole = inl (record { each = (tt, tt); sharp = (tt, tt); within = some; ran_out = λ e. absurd (more e) });
           loose = λ _. (tt, tt);
           infeasible = λ h. absurd (busy h);
           arcless = λ _. refl;
           processed = refl;
           failed = refl;
-          within = some;
           done = done-of (found_of shifts cost bound done).cert done (subst (λ (x : Option ℕ). IsDoneAt x bound done) (sym costs) ended);
-          ran_out = λ e. absurd (more e);
           start = λ has. subst (λ (x : Option ℕ). IsAtMostStart i x) (sym costs) (start-of i best (is.start has));
         }
 

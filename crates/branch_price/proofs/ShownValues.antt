@@ -5,15 +5,19 @@ use Rattle.roster_model.specs.declared.instance.Cut.{Cut}
 use Rattle.roster_model.specs.declared.instance.Instance.{Instance}
 use Rattle.roster_model.specs.declared.instance.Mult.{Mult}
 use Rattle.roster_model.specs.Folds.{Each}
-use Rattle.roster_model.specs.PriceLimits.{IsMult, AreRising}
+use Rattle.roster_model.specs.declared.instance.Prices.{Prices}
+use Rattle.roster_model.specs.PriceLimits.{FitPrices, IsMult, AreRising}
 use Rattle.bound_laws.specs.Priced.{IsPricedValue}
 use Rattle.roster_model.specs.Limits.{IsSmallCut}
 use Rattle.bound_laws.proofs.master_laws.RowSizes.{row_count}
 use Rattle.roster_model.proofs.EachLemmas.{all_each, each_all, Each-weaker}
-use Rattle.node_master.specs.Ends.{IsNodeCut}
+use Rattle.bound_laws.specs.master_laws.Rows.{rows_of}
+use Rattle.certificates.specs.Sound.{ListNoZero}
+use Rattle.node_master.specs.Ends.{IsNodeCut, AreLawful}
 use Rattle.tree_pool.specs.Pools.{PoolTree}
 use Rattle.certificates.specs.growing_laws.States.{IsPricedNode}
 use Rattle.branch_price.specs.declared.solved.Solved.{Solved}
+use Rattle.branch_price.specs.Roots.{AreShown}
 use Rattle.branch_price.specs.Solutions.{IsSolved, IsShown}
 use Rattle.branch_price.proofs.Leaves.{AreLeafCuts}
 
@@ -39,20 +43,36 @@ rising-few top (m ∷ ms) n le above within rising =
 all-some : (top : ℕ) (ms : List Mult) → Each (IsMult top) ms → Each (λ (m : Mult). 0 < m.cut) ms
 all-some top ms h = Each-weaker (IsMult top) (λ (m : Mult). 0 < m.cut) ms (λ m k. let f = k.first in omega (arith, f)) h
 
+-- prices of a node with few rows are few enough for a written certificate
+few-listed : (i : Instance) (cuts : List Cut) (p : Prices) → length (rows_of i cuts) ≤ 1500 → FitPrices i p.d p.cell p.mult cuts → length p.cell + length p.mult ≤ 1498
+few-listed i cuts p few fit =
+    let rows = row_count i cuts in
+    let cells = fit.cells in
+    let each = all_each (IsMult (length cuts)) p.mult fit.mults in
+    let mults = rising-few (length cuts) p.mult 0 (omega arith) (all-some (length cuts) p.mult each) each fit.rising in
+    omega (arith, rows, few, cells, mults)
+
+none-zero : (p : Prices) → Each (λ (m : Mult). pos 0 <ℤ m.value) p.mult → ListNoZero p
+none-zero p h = Each-weaker (λ (m : Mult). pos 0 <ℤ m.value) (λ (m : Mult). pos 1 ≤ℤ m.value) p.mult (λ m h. omega (arith, ints, h)) h
+
+-- lawful prices, with what they show
+pub lawful-shown : (i : Instance) (cuts : List Cut) (p : Prices) (value limit : ℕ) → AreLawful i cuts p → IsPricedValue i p cuts value → value < limit
+    → AreShown i cuts limit (record { prices = p; value = value })
+lawful-shown i cuts p value limit is shows below = record {
+  fit = is.fit.fit;
+  listed = none-zero p is.fit.positive;
+  few = few-listed i cuts p is.few is.fit.fit;
+  value = shows;
+  below = below;
+}
+
 -- the prices of a solved node, with what they show
 pub priced-node : (i : Instance) (cuts : List Cut) (pool : List PoolTree) (solved : Solved) (value : ℕ) → AreLeafCuts i cuts
     → IsSolved i cuts pool solved → IsPricedValue i solved.prices cuts value → IsPricedNode i cuts (record { prices = solved.prices; value = value })
-priced-node i cuts pool solved value are is shows =
-    let fit = is.fit in
-    let rows = row_count i cuts in
-    let few = is.few in
-    let cells = fit.cells in
-    let each = all_each (IsMult (length cuts)) solved.prices.mult fit.mults in
-    let mults = rising-few (length cuts) solved.prices.mult 0 (omega arith) (all-some (length cuts) solved.prices.mult each) each fit.rising in
-    record {
-      fit = fit;
-      listed = Each-weaker (λ (m : Mult). pos 0 <ℤ m.value) (λ (m : Mult). pos 1 ≤ℤ m.value) solved.prices.mult (λ m h. omega (arith, ints, h)) is.positive;
-      few = omega (arith, rows, few, cells, mults);
-      value = shows;
-      best = is.best are.below;
-    }
+priced-node i cuts pool solved value are is shows = record {
+  fit = is.fit;
+  listed = none-zero solved.prices is.positive;
+  few = few-listed i cuts solved.prices is.few is.fit;
+  value = shows;
+  best = is.best are.below;
+}

@@ -1,5 +1,5 @@
 -- What the end of a node's master says, where it was solved and where it was given up.
-use Rattle.std.proofs.Common.{◌≡◌, ℕ, ◌≤◌, ◌<◌, ◌^◌, Bool, IsTrue, List, [], ◌∷◌, length, subst}
+use Rattle.std.proofs.Common.{◌≡◌, ℕ, ◌≤◌, ◌<◌, ◌^◌, Bool, IsTrue, Option, IfSome, List, [], ◌∷◌, length, subst}
 use Rattle.std.proofs.lemmas.Option.{slice_get_within}
 use Rattle.roster_model.specs.declared.grammar.Grammar.{Grammar}
 use Rattle.roster_model.specs.declared.instance.Cut.{Cut}
@@ -19,7 +19,7 @@ use Rattle.node_master.specs.declared.ends.NodeEnd.{NodeEnd}
 use Rattle.node_master.specs.declared.ends.Cause.{Cause}
 use Rattle.node_master.specs.declared.ends.NodeEnd.TheVariants.{Best, Near, Failed, Stopped}
 use Rattle.node_master.specs.declared.ends.Solution.TheVariants.{Exact as is_exact, Near as is_near}
-use Rattle.node_master.specs.Ends.{IsBest, IsNear}
+use Rattle.node_master.specs.Ends.{IsBest, IsNear, AreLawful}
 use Rattle.node_master.specs.Refusals.{EndsWell, counted}
 use Rattle.search_tree.specs.Trees.{last_count}
 use Rattle.branch_price.specs.declared.solved.Outcome.{Outcome}
@@ -65,14 +65,14 @@ solved-nearly i cuts pool prices weights few near = record {
 abbrev ComesOf : Instance → List Cut → List PoolTree → ℕ → ℕ → Bool → Bool → Outcome → Type 0
 ComesOf i cuts pool now later strict patient (is_solved s) = IsSolved i cuts pool s
 ComesOf i cuts pool now later strict patient (is_failed cause) = IsGivenUp i strict now later cuts
-ComesOf i cuts pool now later strict patient is_stopped = (IsTrue patient → ⊥) × (later ≡ now)
+ComesOf i cuts pool now later strict patient (is_stopped own) = (IsTrue patient → ⊥) × IfSome own (AreLawful i cuts) × (later ≡ now)
 
 comes-of : (i : Instance) (cuts : List Cut) (pool : List PoolTree) (now later : ℕ) (strict patient : Bool) (end : NodeEnd) → EndsWell i cuts pool strict patient end → later ≡ counted now end → later ≤ last_count
     → ComesOf i cuts pool now later strict patient (outcome_of end)
 comes-of i cuts pool now later strict patient (Best prices value weights) h counts within = solved-exactly i cuts pool prices value weights h.0 h.1
 comes-of i cuts pool now later strict patient (Near prices weights) h counts within = solved-nearly i cuts pool prices weights h.0 h.1
 comes-of i cuts pool now later strict patient (Failed cause) h counts within = given-up i cuts pool now later strict patient cause h counts within
-comes-of i cuts pool now later strict patient Stopped h counts within = (h, counts)
+comes-of i cuts pool now later strict patient (Stopped own) h counts within = (h.0, h.1, counts)
 
 module _ (i : Instance) (cuts : List Cut) (pool : List PoolTree) (now later : ℕ) (strict patient : Bool) (end : NodeEnd) (well : EndsWell i cuts pool strict patient end) (counts : later ≡ counted now end) (within : later ≤ last_count) where
   comes : (o : Outcome) → outcome_of end ≡ o → ComesOf i cuts pool now later strict patient o
@@ -86,6 +86,6 @@ module _ (i : Instance) (cuts : List Cut) (pool : List PoolTree) (now later : �
   pub failed-end : (cause : Cause) → outcome_of end ≡ is_failed cause → IsGivenUp i strict now later cuts
   failed-end cause e = comes (is_failed cause) e
 
-  -- one that was stopped has no patient watch, and was not counted
-  pub stopped-end : outcome_of end ≡ is_stopped → (IsTrue patient → ⊥) × (later ≡ now)
-  stopped-end e = comes is_stopped e
+  -- one that was stopped has no patient watch, has lawful prices or none, and was not counted
+  pub stopped-end : (own : Option Prices) → outcome_of end ≡ is_stopped own → (IsTrue patient → ⊥) × IfSome own (AreLawful i cuts) × (later ≡ now)
+  stopped-end own e = comes (is_stopped own) e

@@ -14,7 +14,7 @@ use Rattle.certificates.specs.growing_laws.States.{IsPricedNode, IsLoosePath, Is
 use Rattle.open_nodes.specs.declared.leaf.Plan.{Plan}
 use Rattle.open_nodes.specs.declared.leaf.OpenLeaf.{OpenLeaf}
 use Rattle.search_tree.specs.Views.{TreeView}
-use Rattle.search_tree.specs.Trees.{IsPlan, IsTree}
+use Rattle.search_tree.specs.Trees.{IsPlan}
 use Rattle.search_tree.specs.Asked.{AsksLeaf, AsksPinned, AsksPriced, AsksFailed, IsProcessed}
 use Rattle.search_tree.proofs.TreeLaws.{limit-falls, count-rises}
 use Rattle.search_tree.specs.Trees.{last_count}
@@ -28,7 +28,9 @@ use Rattle.candidate_rosters.specs.declared.roster.Roster.{Roster}
 use Rattle.candidate_rosters.specs.Offers.{limit_of, IsBetter}
 use Rattle.branch_price.specs.declared.progress.Progress.{Progress}
 use Rattle.branch_price.specs.Searching.{site_of}
-use Rattle.branch_price.specs.Steps.{AsksNode, IsTurned, IsStopped, IsGivenUp}
+use Rattle.branch_price.specs.declared.turn_end.TurnEnd.{TurnEnd}
+use Rattle.branch_price.specs.declared.turn_end.TurnEnd.TheVariants.{Done, Stopped, StoppedAtRoot}
+use Rattle.branch_price.specs.Steps.{AsksNode, IsTurned, IsStopped, IsGivenUp, EndsTurn}
 
 -- the leaf in hand, once the best roster gave way to another one
 abbrev pub taken : (i : Instance) (v : GraphView) (strict : Bool) (before now low : ℕ) (p : Progress) (leaf : OpenLeaf) (cuts : List Cut) (best : Option Roster)
@@ -159,22 +161,34 @@ better-turned i v strict before now low p best new better turned = record {
   falls = let f = turned.falls in let b = better.falls in omega (arith, f, b);
 }
 
+-- a turn that ends then has ended
+pub better-ends : (i : Instance) (v : GraphView) (strict : Bool) (before now low : ℕ) (patient : Bool) (p : Progress) (best : Option Roster) (new : Progress) (end : TurnEnd)
+    → IsBetter i p.best best → EndsTurn i v strict before now low patient (record { tree = p.tree; best = best }) new end → EndsTurn i v strict before now low patient p new end
+better-ends i v strict before now low patient p best new Done better turned = better-turned i v strict before now low p best new better turned
+better-ends i v strict before now low patient p best new (Stopped leaf) better stopped = record {
+  restless = stopped.restless;
+  tree = stopped.tree;
+  is = stopped.is;
+  bound = stopped.bound;
+  processed = stopped.processed;
+  falls = let f = stopped.falls in let b = better.falls in omega (arith, f, b);
+}
+better-ends i v strict before now low patient p best new (StoppedAtRoot root) better stopped = record {
+  restless = stopped.restless;
+  halted = stopped.halted;
+  falls = let f = stopped.falls in let b = better.falls in omega (arith, f, b);
+}
+
 -- the watch stopped the turn, and the leaf in hand is as before
-pub turn-stopped : (i : Instance) (v : GraphView) (strict : Bool) (before now later low : ℕ) (patient : Bool) (p : Progress) (leaf : OpenLeaf) (cuts : List Cut) (best : Option Roster)
-    → AsksNode i v strict before now low p leaf cuts → IsBetter i p.best best → (IsTrue patient → ⊥) → later ≡ now
-    → IsStopped i v strict before later low patient p (record { tree = p.tree; best = best }) leaf
-turn-stopped i v strict before now later low patient p leaf cuts best asked better restless same = record {
+pub turn-stopped : (i : Instance) (v : GraphView) (strict : Bool) (before now low : ℕ) (patient : Bool) (p : Progress) (leaf : OpenLeaf) (cuts : List Cut)
+    → AsksNode i v strict before now low p leaf cuts → (IsTrue patient → ⊥) → IsStopped i v strict before now low patient p p leaf
+turn-stopped i v strict before now low patient p leaf cuts asked restless = record {
   restless = restless;
   tree = asked.tree;
-  is = record {
-    tree = subst (λ (n : ℕ). IsTree (site_of i v strict before) (limit_of i best) n low (leaf ∷ []) p.tree asked.tree) (sym same)
-        (limit-falls (site_of i v strict before) (limit_of i p.best) (limit_of i best) now low (leaf ∷ []) p.tree asked.tree asked.is.tree better.falls);
-    best = better.good;
-    start = λ h. better.start (asked.is.start h);
-  };
+  is = asked.is;
   bound = asked.bound;
   processed = refl;
-  falls = better.falls;
+  falls = omega arith;
 }
 
 -- a count that was to rise rose, or stands at its last value

@@ -87,11 +87,29 @@ pub record RanOut (i : Instance) (turns : ℕ) (f : Found) : Type 0 where
   pub all : f.processed ≡ turns
   pub few : (points : ℕ) → IsPoints i points → turns + 1 < 2 * points
 
--- The certificate is sound and accepted, its bound is what its tree shows, and each node is right. A bound
--- that it states is at most the greatest cost. A plainly infeasible day has one node; on any other one a
--- priced leaf leaves some arc more than one count. Prices of a leaf show no less than the roster costs, or some
--- split of it is sharp, or near-sharp for them. A day without arcs has one pinned node, whatever its roster
--- costs.
+-- Each node is right, at most as many are processed as there are turns, and all of these were used where they ran
+-- out. Prices of a leaf show no less than the roster costs, or some split of it is sharp, or near-sharp for them.
+pub record IsWhole (i : Instance) (strict : Bool) (turns : ℕ) (f : Found) (proof : Proof) : Type 0 where
+  pub each : Each (λ (v : Visit). IsFoundNode i strict (bound_number i f.cert.bound) v v.node)
+      (visits (base_cuts i) proof)
+  pub sharp : Each (λ (v : Visit). IsSharpNode i (bound_number i f.cert.cost) v v.node)
+      (visits (base_cuts i) proof)
+  pub within : f.processed ≤ turns
+  pub ran_out : f.done ≡ TurnsOut → RanOut i turns f
+
+-- No turn was taken whole: the first one was stopped, and the root, which is the one node, has prices that are few
+-- enough for a written certificate and need not be best.
+pub record IsStoppedRoot (turns : ℕ) (f : Found) : Type 0 where
+  pub none : turns ≡ 0
+  pub prices : Prices
+  pub nodes : f.cert.nodes ≡ Priced prices ∷ []
+  pub few : length prices.cell + length prices.mult ≤ 1498
+  pub done : f.done ≡ TurnsOut
+
+-- The certificate is sound and accepted, and its bound is what its tree shows. A bound that it states is at most
+-- the greatest cost. Each node is right, as a search of 1 turn or more finds it, or the first turn was stopped. A
+-- plainly infeasible day has one node; on any other one a priced leaf leaves some arc more than one count. A day
+-- without arcs has one pinned node, whatever its roster costs.
 pub record IsFound (i : Instance) (strict : Bool) (turns : ℕ) (f : Found) : Type 0 where
   pub sound : IsSoundCert i f.cert
   pub accepted : Accepts i f.cert
@@ -100,19 +118,14 @@ pub record IsFound (i : Instance) (strict : Bool) (turns : ℕ) (f : Found) : Ty
   pub shows : Shows i (base_cuts i) proof (bound_number i f.cert.bound)
   pub most : IfSome f.cert.bound (λ b. b ≤ greatest_cost i)
   pub ascending : AreAscending f.cert.shifts
-  pub each : Each (λ (v : Visit). IsFoundNode i strict (bound_number i f.cert.bound) v v.node)
-      (visits (base_cuts i) proof)
-  pub sharp : Each (λ (v : Visit). IsSharpNode i (bound_number i f.cert.cost) v v.node)
-      (visits (base_cuts i) proof)
+  pub whole : IsWhole i strict turns f proof ⊎ IsStoppedRoot turns f
   pub loose : (IsPlainlyInfeasible i → ⊥)
       → Each (λ (v : Visit). IsLooseNode i v v.node) (visits (base_cuts i) proof)
   pub infeasible : IsPlainlyInfeasible i → IsOneNode f
   pub arcless : HasNoArc i → f.cert.nodes ≡ Pinned ∷ []
   pub processed : f.processed ≡ count is_processed f.cert.nodes
   pub failed : f.failed ≡ count is_unpriced f.cert.nodes
-  pub within : f.processed ≤ turns
   pub done : IsDone f.cert f.done
-  pub ran_out : f.done ≡ TurnsOut → RanOut i turns f
   pub start : HasStart i → IsAtMostStart i f.cert.cost
 
 -- each node that failed for another cause than its rows was counted by the master

@@ -5,6 +5,7 @@ pub mod Rounded
 pub mod Plans
 pub mod Infeasible
 pub mod Solutions
+pub mod Roots
 pub mod Steps
 pub mod Ends
 pub mod Loops

@@ -29,7 +29,7 @@ outcome_of (Best prices value weights) =
     is_solved (record { prices = prices; weights = weights; solution = is_exact })
 outcome_of (Near prices weights) = is_solved (record { prices = prices; weights = weights; solution = is_near })
 outcome_of (Failed cause) = is_failed cause
-outcome_of Stopped = is_stopped
+outcome_of (Stopped own) = is_stopped own
 
 -- a basic solution of least cost, at some value, or one that shows the prices best
 abbrev pub IsSolvedBy : Solution → Instance → List Cut → List PoolTree → Prices → List Weight → Type 0

@@ -13,7 +13,9 @@ use Rattle.search_tree.specs.Trees.{last_count}
 use Rattle.candidate_rosters.specs.Offers.{limit_of}
 use Rattle.branch_price.specs.declared.progress.Progress.{Progress}
 use Rattle.branch_price.specs.declared.turn_end.TurnEnd.{TurnEnd}
-use Rattle.branch_price.specs.declared.turn_end.TurnEnd.TheVariants.{Done, Stopped}
+use Rattle.branch_price.specs.declared.turn_end.TurnEnd.TheVariants.{Done, Stopped, StoppedAtRoot}
+use Rattle.branch_price.specs.declared.turn_end.RootPrices.{RootPrices}
+use Rattle.branch_price.specs.Roots.{IsHaltedAtRoot}
 use Rattle.branch_price.specs.Searching.{site_of, IsSearching}
 
 -- a leaf that was taken from those that wait
@@ -53,11 +55,19 @@ pub record IsStopped (i : Instance) (v : GraphView) (strict : Bool) (before now 
   pub processed : new.tree.processed ≡ old.tree.processed
   pub falls : limit_of i new.best ≤ limit_of i old.best
 
+-- the watch stopped the first turn, and is not patient: the root has prices, and the best roster gave way to none
+-- that costs more
+pub record IsStoppedAtRoot (i : Instance) (patient : Bool) (old new : Progress) (root : RootPrices) : Type 0 where
+  pub restless : IsTrue patient → ⊥
+  pub halted : IsHaltedAtRoot i new.best root
+  pub falls : limit_of i new.best ≤ limit_of i old.best
+
 -- a turn ends with its node processed, or stopped
 abbrev pub EndsTurn : Instance → GraphView → Bool → ℕ → ℕ → ℕ → Bool → Progress → Progress → TurnEnd → Type 0
 EndsTurn i v strict before now low patient old new Done = IsTurned i v strict before now low old new
 EndsTurn i v strict before now low patient old new (Stopped leaf) =
     IsStopped i v strict before now low patient old new leaf
+EndsTurn i v strict before now low patient old new (StoppedAtRoot root) = IsStoppedAtRoot i patient old new root
 
 -- the node's master failed for a cause that may be
 pub record IsGivenUp (i : Instance) (strict : Bool) (now later : ℕ) (cuts : List Cut) : Type 0 where

@@ -1,5 +1,5 @@
 -- What is asked for each step of a turn, and what it leads to, whatever the counts of refusals are.
-use Rattle.std.specs.Prelude.{ℕ, Bool, List}
+use Rattle.std.specs.Prelude.{ℕ, Bool, IsTrue, List}
 use Rattle.roster_model.specs.declared.instance.Cut.{Cut}
 use Rattle.parse_graph.specs.Graphs.{GraphView}
 use Rattle.roster_model.specs.declared.instance.Instance.{Instance}
@@ -48,6 +48,12 @@ IsLeafAt n p leaf = IsInHand n.searched.day p leaf n.cuts.now
 -- it is processed then
 abbrev pub IsTurnedAt : OpenNode → Progress → OpenLeaf → Progress → Type 0
 IsTurnedAt n old leaf new = IsTurnedBelow n.searched.day old leaf n.cuts.now new
+
+-- its turn is stopped then by a watch that is not patient: the leaf stays, or the root has prices
+abbrev pub StopsAt : OpenNode → Progress → OpenLeaf → Progress → TurnEnd → Type 0
+StopsAt n old leaf new end = (strict : Bool) (before now low : ℕ) (patient : Bool) → (IsTrue patient → ⊥)
+    → AsksNode n.searched.day.instance.now n.searched.day.graph.now strict before now low old leaf n.cuts.now
+    → EndsTurn n.searched.day.instance.now n.searched.day.graph.now strict before now low patient old new end
 
 -- a leaf at the node is not processed, over a master with this count
 abbrev pub IsOpenLeafAt : OpenNode → Bool → ℕ → Progress → OpenLeaf → Type 0

@@ -12,7 +12,7 @@ ghost use Rattle.search_watch.specs.Within.{IsWithin};
 
 use crate::arcless::search_arcless;
 use crate::desk::{SearchBench, SearchDesk};
-use crate::ended::{closed_end, found, halted};
+use crate::ended::{closed_end, found, halted, halted_at_root};
 use crate::first::offer_early;
 use crate::found::Found;
 use crate::infeasible::{derived, no_roster};
@@ -104,6 +104,9 @@ fn search_along<M: Master, W: Watch>(
             TurnEnd::Done => {}
             TurnEnd::Stopped(leaf) => {
                 return halted(alloc, job.searched.day.instance, progress, leaf);
+            }
+            TurnEnd::StoppedAtRoot(root) => {
+                return halted_at_root(alloc, job.searched.day.instance, progress.best, root);
             }
         }
     }
@@ -203,7 +206,8 @@ pub fn search_from<M: Master, W: Watch>(
 /// node, one of least bound first. Between two turns the watch is told how far the search is, and may stop it.
 /// It is asked within a turn too, and where it says that the search is over that turn ends early, or is not
 /// taken. All that is said of what is found holds for the number of turns that were taken, from 0; the roster may be
-/// better than so many turns would find. A patient watch stops none.
+/// better than so many turns would find, and where the first turn is stopped the root may have prices that fit it
+/// and need not be best. A patient watch stops none.
 ///
 /// The certificate is sound and accepted, its bound is what its tree shows, and its shifts stand in order
 /// of their groups and then of their bytes. The bound is the cost, or both say that no roster is allowed,

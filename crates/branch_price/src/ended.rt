@@ -3,11 +3,13 @@ ghost use Rattle.roster_model.specs.SoundInstance.{IsSoundInstance};
 ghost use Rattle.candidate_rosters.specs.Offers.{cost_of};
 ghost use Rattle.branch_price.specs.Ends.{AsksEnd, IsEndOf, IsFoundAtEnd, IsHalted, IsFoundHalted};
 ghost use Rattle.branch_price.specs.Ends.{IsStatedBy, IsClosedBy};
+ghost use Rattle.branch_price.specs.Roots.{IsHaltedAtRoot, IsFoundHaltedAtRoot};
 
 use crate::found::Found;
 use crate::progress::Progress;
+use crate::turn_end::RootPrices;
 use candidate_rosters::{Roster, limit};
-use certificates::Cert;
+use certificates::{Cert, Node};
 use open_nodes::OpenLeaf;
 use roster_model::{Done, Instance, List, Memory, Shift};
 use std::alloc::Global;
@@ -88,4 +90,39 @@ pub(crate) fn halted(
         return found(alloc, instance, progress, bound, done);
     }
     found(alloc, instance, progress, Some(leaf.bound), Done::TurnsOut)
+}
+
+/// Returns what a search found whose watch stopped its first turn: the root has prices, which alone show the
+/// bound.
+///
+/// # Errors
+///
+/// `Memory` where memory runs out; nothing is kept then.
+pub(crate) fn halted_at_root(
+    alloc: Global,
+    instance: &Instance,
+    best: Option<Roster>,
+    root: RootPrices,
+) -> Result<Found, Memory>
+    requires sound { IsSoundInstance instance.now }
+    requires halted { IsHaltedAtRoot instance.now best root }
+    ensures cost { IfOk result (λ f. f.cert.cost ≡ cost_of best) }
+    ensures found { IfOk result (IsFoundHaltedAtRoot instance.now) }
+{
+    let mut nodes = List::new(alloc);
+    nodes.push(Node::Priced {
+        prices: root.prices,
+    })?;
+    let (shifts, cost) = stated(alloc, best);
+    Ok(Found {
+        cert: Cert {
+            shifts,
+            cost,
+            bound: Some(root.value),
+            nodes,
+        },
+        done: Done::TurnsOut,
+        processed: 1,
+        failed: 0,
+    })
 }

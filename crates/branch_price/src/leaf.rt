@@ -1,10 +1,14 @@
-ghost use Rattle.std.specs.Prelude.{◌≡◌, ◌≤◌, IfOk, OnOk};
+ghost use Rattle.std.specs.Prelude.{◌≡◌, ◌≤◌, All, IfOk, IfSome, OnOk};
+ghost use Rattle.roster_model.specs.declared.instance.Cut.{Cut as PathCut};
 ghost use Rattle.bound_laws.specs.Pinned.{IsPinned};
-ghost use Rattle.branch_price.specs.Desks.{AreTools, StayTools, IsBench, StayBench};
+ghost use Rattle.master_rows.specs.search_day.Rooms.{ArePricing, StayPricing};
+ghost use Rattle.node_master.specs.Ends.{AreLawful};
+ghost use Rattle.branch_price.specs.Desks.{AreTools, StayTools, IsBench, StayBench, IsDesk};
 ghost use Rattle.branch_price.specs.Jobs.{IsBusyDay};
 ghost use Rattle.branch_price.specs.Nodes.{IsOpenNode};
+ghost use Rattle.branch_price.specs.Roots.{AreShown};
 ghost use Rattle.branch_price.specs.Solutions.{IsSolved};
-ghost use Rattle.branch_price.specs.Turns.{IsInHand, IsTurnedBelow, IsLeafAt, IsTurnedAt};
+ghost use Rattle.branch_price.specs.Turns.{IsInHand, IsTurnedBelow, IsLeafAt, IsTurnedAt, StopsAt};
 ghost use Rattle.branch_price.specs.Turns.{IsOpenLeafAt, EndsTurnOver, IsGivenUpAt, IsTurnedFailing};
 
 use crate::asking::ask_master;
@@ -18,12 +22,13 @@ use crate::open_node::OpenNode;
 use crate::pinned::{offer_least, pinned_value};
 use crate::progress::{Progress, tell_best};
 use crate::solved::{Outcome, Solved, outcome_of};
-use crate::turn_end::TurnEnd;
+use crate::turn_end::{RootPrices, TurnEnd};
 use crate::value::shown_value;
-use master_rows::Day;
+use candidate_rosters::limit;
+use master_rows::{Day, Pricing};
 use node_master::{Cause, Master, Pool};
 use open_nodes::OpenLeaf;
-use roster_model::Memory;
+use roster_model::{Memory, Prices};
 use search_watch::Watch;
 use std::alloc::Global;
 
@@ -164,8 +169,87 @@ fn give_up_leaf<W: Watch>(
     fail_leaf(node, progress, leaf)
 }
 
+/// Returns prices of a node with what they show, where this is above 0 and below a limit.
+fn shown_prices(
+    node: &OpenNode,
+    prices: Prices,
+    limit: u64,
+    pricing: &mut Pricing,
+) -> Option<RootPrices>
+    requires node { IsOpenNode node.now }
+    requires pricing { ArePricing node.now.searched.day pricing.old }
+    requires most { pricing.old.room.most ≡ 1500 }
+    requires lawful { AreLawful node.now.searched.day.instance.now node.now.cuts.now prices }
+    requires small { All (λ (c : PathCut). c.b ≤ 63) node.now.cuts.now }
+    ensures shown { IfSome result (AreShown node.now.searched.day.instance.now node.now.cuts.now limit) }
+    ensures pricing { StayPricing node.now.searched.day pricing.old pricing.new }
+{
+    let value = shown_value(&node.searched, &prices, node.cuts, pricing);
+    if value == 0 || value >= limit {
+        return None;
+    }
+    Some(RootPrices { prices, value })
+}
+
+/// Returns how the turn of a leaf ends whose master was stopped. The leaf stays as it is; the root alone keeps
+/// prices that fit it, where they show more than 0 and less than the best roster costs.
+fn stopped_end(
+    node: &OpenNode,
+    own: Option<Prices>,
+    pricing: &mut Pricing,
+    progress: &Progress,
+    leaf: OpenLeaf,
+) -> TurnEnd
+    requires node { IsOpenNode node.now }
+    requires pricing { ArePricing node.now.searched.day pricing.old }
+    requires most { pricing.old.room.most ≡ 1500 }
+    requires own { IfSome own (AreLawful node.now.searched.day.instance.now node.now.cuts.now) }
+    requires leaf { IsLeafAt node.now progress.now leaf }
+    ensures stops { StopsAt node.now progress.now leaf progress.now result }
+    ensures pricing { StayPricing node.now.searched.day pricing.old pricing.new }
+{
+    let Some(prices) = own else {
+        return TurnEnd::Stopped(leaf);
+    };
+    if progress.tree.processed() > 0 {
+        return TurnEnd::Stopped(leaf);
+    }
+    let limit = limit(node.searched.day.instance, &progress.best);
+    match shown_prices(node, prices, limit, pricing) {
+        Some(root) => TurnEnd::StoppedAtRoot(root),
+        None => TurnEnd::Stopped(leaf),
+    }
+}
+
+/// Ends the turn of a leaf whose master was stopped, once a first roster is offered where none was looked for.
+fn stop_leaf<W: Watch>(
+    alloc: Global,
+    node: &OpenNode,
+    own: Option<Prices>,
+    desk: &mut SearchDesk,
+    progress: &mut Progress,
+    leaf: OpenLeaf,
+    watch: &W,
+) -> Result<TurnEnd, Memory>
+    requires node { IsOpenNode node.now }
+    requires desk { IsDesk node.now.searched.day desk.old }
+    requires own { IfSome own (AreLawful node.now.searched.day.instance.now node.now.cuts.now) }
+    requires leaf { IsLeafAt node.now progress.old leaf }
+    ensures stops { IfOk result (StopsAt node.now progress.old leaf progress.new) }
+    ensures desk { IsDesk node.now.searched.day desk.new }
+{
+    let day = &node.searched.day;
+    let processed = progress.tree.processed();
+    let Ok(()) = offer_late(alloc, day, processed, desk, &mut progress.best, watch) else {
+        drop(own);
+        return Err(Memory);
+    };
+    Ok(stopped_end(node, own, &mut desk.pricing, progress, leaf))
+}
+
 /// Processes a leaf whose path leaves an arc more than one count: prices it, or splits it where its master
-/// fails. Where the watch stops its master the leaf stays as it is, and a first roster is offered still.
+/// fails. Where the watch stops its master the leaf stays as it is, but that the root may keep prices, and a
+/// first roster is offered still.
 ///
 /// # Errors
 ///
@@ -201,11 +285,6 @@ pub(crate) fn price_leaf<M: Master, W: Watch>(
             give_up_leaf(alloc, node, cause, desk, pool, progress, leaf, watch)?;
             Ok(TurnEnd::Done)
         }
-        Outcome::Stopped => {
-            let processed = progress.tree.processed();
-            let best = &mut progress.best;
-            offer_late(alloc, &node.searched.day, processed, desk, best, watch)?;
-            Ok(TurnEnd::Stopped(leaf))
-        }
+        Outcome::Stopped(own) => stop_leaf(alloc, node, own, desk, progress, leaf, watch),
     }
 }

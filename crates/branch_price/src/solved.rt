@@ -22,8 +22,8 @@ pub(crate) enum Outcome {
     Solved(Solved),
     /// It was given up.
     Failed(Cause),
-    /// The watch stopped it.
-    Stopped,
+    /// The watch stopped it; with prices that fit the node and need not be best, if there were any.
+    Stopped(Option<Prices>),
 }
 
 /// Returns what comes of a master by its end.
@@ -46,6 +46,6 @@ pub(crate) fn outcome_of(end: NodeEnd) -> Outcome
             solution: Solution::Near,
         }),
         NodeEnd::Failed(cause) => Outcome::Failed(cause),
-        NodeEnd::Stopped => Outcome::Stopped,
+        NodeEnd::Stopped(own) => Outcome::Stopped(own),
     }
 }

@@ -1,10 +1,21 @@
 use open_nodes::OpenLeaf;
+use roster_model::Prices;
+
+/// Prices of the root, and what they show.
+#[derive(Debug, Drop)]
+pub(crate) struct RootPrices {
+    pub prices: Prices,
+    pub value: u64,
+}
 
 /// How a turn ended.
-#[derive(Clone, Copy, Debug, PartialEq, Eq, Drop)]
+#[derive(Debug, Drop)]
 pub(crate) enum TurnEnd {
     /// Its node was processed.
     Done,
     /// The watch stopped it with this leaf in hand, which stays open.
     Stopped(OpenLeaf),
+    /// The watch stopped it, and it was the first one. The root has these prices, which fit it and need not be
+    /// best.
+    StoppedAtRoot(RootPrices),
 }

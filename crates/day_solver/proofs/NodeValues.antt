@@ -1,5 +1,5 @@
 -- How many prices and multipliers the nodes of a certificate list.
-use Rattle.std.proofs.Common.{◌≡◌, ℕ, arith, ◌+◌, ◌*◌, ◌≤◌, Bool, cond, None, Some, List, [], ◌∷◌, ◌++◌, subst}
+use Rattle.std.proofs.Common.{◌≡◌, ℕ, arith, ◌+◌, ◌*◌, ◌≤◌, Bool, cond, None, Some, List, [], ◌∷◌, ◌++◌, sym, subst, ◌⊎◌, inl, inr}
 use Rattle.roster_model.specs.declared.instance.Cut.{Cut}
 use Rattle.roster_model.specs.declared.instance.Instance.{Instance}
 use Rattle.roster_model.specs.Cuts.{base_cuts}
@@ -13,7 +13,7 @@ use Rattle.certificates.specs.Nodes.{Proof, split, priced, pinned, bare, preorde
 use Rattle.certificates.specs.certificate_laws.Accepted.{bound_number}
 use Rattle.certificate_text.specs.Written.{node_values}
 use Rattle.branch_price.specs.declared.found.Found.{Found}
-use Rattle.branch_price.specs.Found.{IsFound, IsFoundNode}
+use Rattle.branch_price.specs.Found.{IsFound, IsWhole, IsStoppedRoot, IsFoundNode}
 use Rattle.day_solver.specs.Texts.{HasFewValues}
 
 -- a node that was processed lists at most so many, and any other lists none
@@ -43,10 +43,14 @@ node-few i strict bound v Bare h = omega arith
 
 -- the nodes of what a search found list few
 pub found-few : (i : Instance) (strict : Bool) (turns : ℕ) (f : Found) → turns ≤ 10000 → IsFound i strict turns f → HasFewValues f.cert
-found-few i strict turns f few is =
-    let bound : ℕ = bound_number i f.cert.bound in
-    let each = Each-weaker (λ (v : Visit). IsFoundNode i strict bound v v.node) (ListsFew 1498) (visits (base_cuts i) is.proof) (λ v h. node-few i strict bound v v.node h) is.each in
-    let most = subst (λ (ns : List Node). sum_n node_values ns ≤ 1498 * count is_processed ns) is.nodes (listed-most 1498 (base_cuts i) is.proof each) in
-    let processed = is.processed in
-    let within = is.within in
-    omega (arith, most, processed, within, few)
+found-few i strict turns f few is = by is.whole
+  where
+    by : IsWhole i strict turns f is.proof ⊎ IsStoppedRoot turns f → HasFewValues f.cert
+    by (inl whole) =
+        let bound : ℕ = bound_number i f.cert.bound in
+        let each = Each-weaker (λ (v : Visit). IsFoundNode i strict bound v v.node) (ListsFew 1498) (visits (base_cuts i) is.proof) (λ v h. node-few i strict bound v v.node h) whole.each in
+        let most = subst (λ (ns : List Node). sum_n node_values ns ≤ 1498 * count is_processed ns) is.nodes (listed-most 1498 (base_cuts i) is.proof each) in
+        let processed = is.processed in
+        let within = whole.within in
+        omega (arith, most, processed, within, few)
+    by (inr root) = subst (λ (ns : List Node). sum_n node_values ns ≤ 14980000) (sym root.nodes) (let least = root.few in omega (arith, least))

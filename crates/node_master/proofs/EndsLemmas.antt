@@ -1,6 +1,6 @@
 -- How the master of a node ends.
 use Rattle.std.proofs.Common.{true≢false, ◌≡◌, ℕ, ℤ, arith, pos, neg_ℤ, ◌+ℤ◌, ◌*ℤ◌, ◌<ℤ◌, ◌≤ℤ◌, ◌^◌, ◌<◌, ◌≤◌, unsigned_abs, List, [], ◌∷◌, ◌++◌, length, sym, ap, subst, ◌∙◌, ◌⊎◌, inl, inr, IfOk}
-use Rattle.std.specs.Prelude.{Bool, Result, Ok, Err, All}
+use Rattle.std.specs.Prelude.{Bool, Option, None, Some, IfSome, Result, Ok, Err, All}
 use Rattle.std.proofs.lemmas.List.Elements.{All-nil, All-cons}
 use Rattle.std.proofs.lemmas.Option.{slice_get_within}
 use Rattle.std.proofs.lemmas.Int.{ints}
@@ -60,7 +60,7 @@ use Rattle.node_columns.specs.Priced.{AreNarrowPrices}
 use Rattle.node_columns.specs.Weights.{AreTreeWeights, KeysStandOnce}
 use Rattle.node_master.specs.declared.ends.NodeEnd.{NodeEnd}
 use Rattle.node_master.specs.Counted.{IsCounted}
-use Rattle.node_master.specs.Ends.{IsNodeCut, EndsRight, IsFailedBy, IsOther, IsBest, ClosesWhole}
+use Rattle.node_master.specs.Ends.{IsNodeCut, FitNode, AreLawful, EndsRight, IsFailedBy, IsOther, IsBest, ClosesWhole}
 use Rattle.node_master.proofs.BasicColumns.{basis_once}
 use Rattle.master_rows.proofs.AddedRows.{floors-le, ceilings-le}
 
@@ -177,7 +177,12 @@ given_up i cuts Listed pool calm old new (LpWide f) r sound node few belongs h e
 given_up i cuts Listed pool calm old new (LpSpent n) r sound node few belongs h e = rw e (λ a b is. (few, h.0, spent_risen a b is, h.2))
 given_up i cuts Listed pool calm old new LpMemory (Ok x) sound node few belongs h e = absurd (true≢false (sym e))
 given_up i cuts Listed pool calm old new LpMemory (Err x) sound node few belongs h e = tt
-given_up i cuts Listed pool calm old new LpStopped r sound node few belongs h e = rw e (λ a b is. (h, is))
+given_up i cuts Listed pool calm old new LpStopped r sound node few belongs h e = rw e (λ a b is. (h, is, tt))
+
+-- ---- prices where it was stopped
+pub lawful : (i : Instance) (cuts : List Cut) (own : Option Prices) → length (rows_of i cuts) ≤ 1500 → IfSome own (FitNode i cuts) → IfSome own (AreLawful i cuts)
+lawful i cuts None few h = tt
+lawful i cuts (Some p) few h = record { few = few; fit = h }
 
 -- ---- counts
 pub rises : (a b c : ℕ) → a ≤ b → HasRisen b c → HasRisen a c

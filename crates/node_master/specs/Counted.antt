@@ -12,4 +12,4 @@ IsCounted (Near prices weights) old new = new ≡ old
 IsCounted (Failed (Rows count)) old new = new ≡ old
 IsCounted (Failed (Wide fault)) old new = new ≡ refused old
 IsCounted (Failed (Spent pivots)) old new = new ≡ overspent old
-IsCounted Stopped old new = new ≡ old
+IsCounted (Stopped own) old new = new ≡ old

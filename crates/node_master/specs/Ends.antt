@@ -1,5 +1,5 @@
 -- How the master of a node ends.
-use Rattle.std.specs.Prelude.{ℕ, ℤ, pos, unsigned_abs, ◌≡◌, ◌≤◌, ◌<◌, ◌-◌, ◌^◌, ◌*ℤ◌, ◌+ℤ◌, ◌≤ℤ◌, ◌<ℤ◌, ◌⊎◌, Bool, IsTrue, List, ◌++◌, length, Result, Ok, IsErr}
+use Rattle.std.specs.Prelude.{ℕ, ℤ, pos, unsigned_abs, ◌≡◌, ◌≤◌, ◌<◌, ◌-◌, ◌^◌, ◌*ℤ◌, ◌+ℤ◌, ◌≤ℤ◌, ◌<ℤ◌, ◌⊎◌, Bool, IsTrue, Option, None, IfSome, List, ◌++◌, length, Result, Ok, IsErr}
 use Rattle.roster_model.specs.declared.grammar.ArcKey.{ArcKey}
 use Rattle.roster_model.specs.declared.instance.Cut.{Cut}
 use Rattle.roster_model.specs.declared.instance.Instance.{Instance}
@@ -99,13 +99,23 @@ pub record IsNear (i : Instance) (cuts : List Cut) (columns : List PoolTree) (pr
   pub once : AreApart weights
   pub near : AreNear i cuts trees (2 ^ 56) prices
 
+-- prices within the limits of the node, with no multiplier of 0
+pub record FitNode (i : Instance) (cuts : List Cut) (p : Prices) : Type 0 where
+  pub fit : FitPrices i p.d p.cell p.mult cuts
+  pub positive : Each (λ (m : Mult). pos 0 <ℤ m.value) p.mult
+
+-- such prices of a node with at most 1,500 rows; they need not be best
+pub record AreLawful (i : Instance) (cuts : List Cut) (p : Prices) : Type 0 where
+  pub few : length (rows_of i cuts) ≤ 1500
+  pub fit : FitNode i cuts p
+
 -- what is known of weights that are to be read so
 abbrev pub AreSolved : Solution → Instance → List Cut → List PoolTree → List Weight → Type 0
 AreSolved is_exact i cuts columns weights = AreLeastWeights i cuts columns weights
 AreSolved is_near i cuts columns weights = (p : Prices) × IsNear i cuts columns p weights
 
 -- each answer comes only where it may; more than 1,500 rows exactly where there are so many; nothing is
--- stopped where it is calm, and what is stopped is not counted
+-- stopped where it is calm, and what is stopped is not counted, and has lawful prices or none
 abbrev pub EndsRight : Instance → List Cut → List PoolTree → Counts → Counts → Bool → NodeEnd → Type 0
 EndsRight i cuts columns old new calm (Best prices value weights) = (length (rows_of i cuts) ≤ 1500)
     × IsBest i cuts columns prices value weights
@@ -117,11 +127,12 @@ EndsRight i cuts columns old new calm (Failed (Wide fault)) = (length (rows_of i
     × HasRisen old.wide new.wide × HasWidePath (master i cuts)
 EndsRight i cuts columns old new calm (Failed (Spent pivots)) = (length (rows_of i cuts) ≤ 1500)
     × (pivots ≡ 5000) × HasRisen old.spent new.spent × HasOpenPath (master i cuts) 5000
-EndsRight i cuts columns old new calm Stopped = (IsTrue calm → ⊥) × (new ≡ old)
+EndsRight i cuts columns old new calm (Stopped own) = (IsTrue calm → ⊥) × (new ≡ old)
+    × IfSome own (AreLawful i cuts)
 
 -- the answer that a given-up program leads to
 abbrev pub IsFailedBy : LpFault → Result NodeEnd MemoryLack → Type 0
 IsFailedBy (LpWide fault) r = r ≡ Ok (Failed (Wide fault))
 IsFailedBy (LpSpent pivots) r = r ≡ Ok (Failed (Spent pivots))
 IsFailedBy LpMemory r = IsErr r
-IsFailedBy LpStopped r = r ≡ Ok Stopped
+IsFailedBy LpStopped r = r ≡ Ok (Stopped None)

@@ -1,11 +1,9 @@
 -- Nodes whose masters may be solved, and how they end.
-use Rattle.std.specs.Prelude.{ℤ, pos, ◌≡◌, ◌<◌, ◌<ℤ◌, ◌^◌, Bool, List, length}
+use Rattle.std.specs.Prelude.{ℤ, ◌≡◌, ◌<◌, ◌^◌, Bool, List, length}
 use Rattle.roster_model.specs.declared.instance.Cut.{Cut}
 use Rattle.roster_model.specs.declared.instance.Instance.{Instance}
-use Rattle.roster_model.specs.declared.instance.Mult.{Mult}
 use Rattle.roster_model.specs.declared.instance.Prices.{Prices}
 use Rattle.roster_model.specs.Folds.{Each}
-use Rattle.roster_model.specs.PriceLimits.{FitPrices}
 use Rattle.roster_model.specs.Trees.{Parts, IsDayTree}
 use Rattle.bound_laws.specs.linear_programs.Program.{IsPricedOut}
 use Rattle.fraction.specs.Range.{Counts}
@@ -27,7 +25,7 @@ use Rattle.node_columns.specs.Priced.{AreNarrowPrices}
 use Rattle.search_columns.specs.Tools.{AreTools}
 use Rattle.node_master.specs.declared.ends.NodeEnd.{NodeEnd}
 use Rattle.node_master.specs.Counted.{IsCounted}
-use Rattle.node_master.specs.Ends.{IsNodeCut, EndsRight}
+use Rattle.node_master.specs.Ends.{IsNodeCut, FitNode, EndsRight}
 
 -- the day has a tree and is not plainly infeasible, and each cut is one of a node
 pub record IsBusyNode (d : Day) (cuts : List Cut) : Type 0 where
@@ -63,11 +61,6 @@ pub record ArePathPrices (t : NodeTask) (y : List ℤ) (kappa : ℤ) : Type 0 wh
   pub long : length y ≡ row_count t
   pub narrow : AreNarrowPrices y kappa
   pub out : IsPricedOut (master t.day.instance.now t.cuts.now) (at y) kappa
-
--- prices within the limits of the node, with no multiplier of 0
-pub record FitNode (i : Instance) (cuts : List Cut) (p : Prices) : Type 0 where
-  pub fit : FitPrices i p.d p.cell p.mult cuts
-  pub positive : Each (λ (m : Mult). pos 0 <ℤ m.value) p.mult
 
 -- such prices, rounded from those of the rows
 pub record AreRounded (t : NodeTask) (y : List ℤ) (kappa : ℤ) (p : Prices) : Type 0 where

@@ -12,7 +12,7 @@ pub(crate) fn is_wide(end: &NodeEnd) -> bool {
 
 /// Says whether a node ended without prices.
 pub(crate) fn is_without_prices(end: &NodeEnd) -> bool {
-    matches!(end, NodeEnd::Failed(_) | NodeEnd::Stopped)
+    matches!(end, NodeEnd::Failed(_) | NodeEnd::Stopped(_))
 }
 
 /// Counts why a master was given up, if it was.
@@ -26,7 +26,7 @@ pub(crate) fn count_end(end: &NodeEnd, tally: &mut Tally)
         NodeEnd::Best { .. }
         | NodeEnd::Near { .. }
         | NodeEnd::Failed(Cause::Rows { .. })
-        | NodeEnd::Stopped => {}
+        | NodeEnd::Stopped(_) => {}
         NodeEnd::Failed(Cause::Wide(_)) => {
             // 1 is above 0 in size.
             let _refused = fits(1, 0, tally);
@@ -46,7 +46,7 @@ pub(crate) fn count_refusal(refused: u64, end: &NodeEnd) -> u64
         NodeEnd::Best { .. }
         | NodeEnd::Near { .. }
         | NodeEnd::Failed(Cause::Rows { .. })
-        | NodeEnd::Stopped => refused,
+        | NodeEnd::Stopped(_) => refused,
         NodeEnd::Failed(Cause::Wide(_)) | NodeEnd::Failed(Cause::Spent { .. }) => {
             refused.saturating_add(1)
         }

@@ -114,6 +114,6 @@ fn failed(fault: LpFault) -> Result<NodeEnd, Memory>
         LpFault::Wide(fault) => Ok(NodeEnd::Failed(Cause::Wide(fault))),
         LpFault::Spent { pivots } => Ok(NodeEnd::Failed(Cause::Spent { pivots })),
         LpFault::Memory => Err(Memory),
-        LpFault::Stopped => Ok(NodeEnd::Stopped),
+        LpFault::Stopped => Ok(NodeEnd::Stopped(None)),
     }
 }

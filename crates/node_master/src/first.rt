@@ -30,7 +30,7 @@ fn solve_near_or_exact<W: Watch>(
     let near = near_end(alloc, task, &hint.near, pool, pricer)?;
     match near {
         Some(end) => Ok(end),
-        None if watch.is_over() => Ok(NodeEnd::Stopped),
+        None if watch.is_over() => Ok(NodeEnd::Stopped(None)),
         None => solve_rows(alloc, task, hint, pricer, pool, watch),
     }
 }
@@ -73,7 +73,7 @@ fn solve_hunted_on<W: Watch>(
     let near = near_end(alloc, task, &hint.near, pool, pricer)?;
     match near {
         Some(end) => Ok(end),
-        None if watch.is_over() => Ok(NodeEnd::Stopped),
+        None if watch.is_over() => Ok(NodeEnd::Stopped(None)),
         None => solve_tightly(alloc, task, pricer, pool, steering, watch),
     }
 }
@@ -102,7 +102,7 @@ pub(crate) fn solve_near_first<W: Watch>(
     let near = near_end(alloc, task, &hint.near, pool, pricer)?;
     match near {
         Some(end) => Ok(end),
-        None if watch.is_over() => Ok(NodeEnd::Stopped),
+        None if watch.is_over() => Ok(NodeEnd::Stopped(None)),
         None if hint.is_early => solve_hunted_on(alloc, task, pricer, pool, steering, watch),
         None => solve_tightly(alloc, task, pricer, pool, steering, watch),
     }

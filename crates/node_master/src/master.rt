@@ -27,7 +27,7 @@ pub trait Master {
 
     /// Prices the node at a path of cuts, base cuts first, or gives it up; a refused node is counted once.
     /// What is handed over may steer it, whatever it is, and the basis of the last hunt is left there. Where
-    /// the watch says that the search is over it may stop, before there are prices.
+    /// the watch says that the search is over it may stop, before its prices are shown to be best.
     ///
     /// # Errors
     ///

@@ -9,8 +9,9 @@ ghost use Rattle.cheapest_tree.specs.Pricers.{IsMadeFor};
 ghost use Rattle.bound_laws.specs.near_laws.Laws.{AreNear};
 ghost use Rattle.near_prices.specs.Listed.{AreWeightsOf};
 ghost use Rattle.master_rows.specs.search_day.Days.{IsDay};
+ghost use Rattle.node_master.specs.Ends.{FitNode};
 ghost use Rattle.node_master.specs.Listed.{MayBeListed};
-ghost use Rattle.node_master.specs.Tasks.{MaySolve, EndsCounted, FitNode};
+ghost use Rattle.node_master.specs.Tasks.{MaySolve, EndsCounted};
 
 use crate::ends::NodeEnd;
 use crate::listed::{may_be_listed, weights_of};

@@ -2,7 +2,7 @@ ghost use Rattle.std.specs.Prelude.{pos, ◌<ℤ◌, IsTrue, IfOk, IfSome};
 ghost use Rattle.roster_model.specs.declared.instance.Mult.{Mult as Multiplier};
 ghost use Rattle.roster_model.specs.Folds.{Each};
 ghost use Rattle.master_rows.specs.node_task.Tasks.{IsTask};
-ghost use Rattle.node_master.specs.Tasks.{FitNode};
+ghost use Rattle.node_master.specs.Ends.{FitNode};
 
 use certificates::are_fit;
 use master_rows::NodeTask;

@@ -1,4 +1,7 @@
-ghost use Rattle.std.specs.Prelude.{◌≡◌, ◌≤◌, Ok, true, IfOk};
+ghost use Rattle.std.specs.Prelude.{◌≡◌, ◌≤◌, Bool, Option, List as Items, Ok, true, IfOk};
+ghost use Rattle.roster_model.specs.declared.instance.Prices.{Prices as PriceList};
+ghost use Rattle.tree_pool.specs.Pools.{PoolTree};
+ghost use Rattle.master_rows.specs.node_task.Tasks.{IsTask};
 ghost use Rattle.search_columns.specs.Tools.{AreTools, StayTools};
 ghost use Rattle.node_master.specs.Ends.{EndsRight};
 ghost use Rattle.node_master.specs.Tasks.{IsBusyNode, MaySolve, EndsCounted};
@@ -6,12 +9,13 @@ ghost use Rattle.node_master.specs.Tasks.{IsBusyNode, MaySolve, EndsCounted};
 use crate::counting::count_end;
 use crate::ends::{Cause, NodeEnd};
 use crate::first::{solve_exact_first, solve_near_first};
+use crate::rounding::near_rounded;
 use cheapest_tree::Pricer;
 use fraction::Tally;
 use master_rows::{Day, NodeRows, NodeTask, count_rows};
 use parse_graph::Graph;
 use roster_model::{Cut, Instance, Memory};
-use search_columns::{Bases, First, Steering, hunt_basis};
+use search_columns::{Bases, First, Hint, Steering, hunt_basis};
 use search_watch::{SteadyWatch, Watch};
 use std::alloc::Global;
 use tree_pool::Pool;
@@ -41,7 +45,7 @@ pub fn solve_node(
     requires node { IsBusyNode (record { instance = instance; graph = graph }) cuts.now }
     requires tools { AreTools (record { instance = instance; graph = graph }) pricer.old pool.old }
     ensures end { IfOk result (EndsRight instance.now cuts.now pool.new tally.old tally.new true) }
-    ensures never { result ≡ Ok NodeEnd.Stopped → ⊥ }
+    ensures never { (own : Option PriceList) → result ≡ Ok (NodeEnd.Stopped own) → ⊥ }
     ensures tools { StayTools (record { instance = instance.entry; graph = graph.entry })
         pricer.new pool.old pool.new }
     ensures counts { (tally.old.wide ≤ tally.new.wide) × (tally.old.spent ≤ tally.new.spent) }
@@ -67,7 +71,7 @@ pub fn solve_node(
 /// Solves the master of a node as `solve_node` does. The hunt for a good basis begins with that of the
 /// nearest node above, if it is kept, and that of this node is kept: they are hints. A way to prices is gone
 /// first, and a master is given up only where neither leads to any. Where the watch is over it stops, once
-/// near prices were asked for.
+/// near prices were asked for, with the best prices that the first hunt asked at.
 ///
 /// Trees of the pool that are wanted steer the solution, the most wanted first: any list of numbers
 /// is lawful. Whatever the answer, the pricer is still one made for the graph, and the pool has its
@@ -110,6 +114,44 @@ pub fn solve_node_from<W: Watch>(
     Ok(end)
 }
 
+/// Returns the end of a node's master; where it was stopped, with the best prices that a hunt asked at, if any
+/// are known that fit the node.
+fn with_prices(alloc: Global, task: &NodeTask, hint: &Hint, end: NodeEnd) -> Result<NodeEnd, Memory>
+    requires { IsTask task.now }
+    ensures { IfOk result (λ later. (columns : Items PoolTree) (calm : Bool) →
+        EndsCounted task.now columns calm end → EndsCounted task.now columns calm later) }
+{
+    match end {
+        NodeEnd::Stopped(_) => {
+            let prices = near_rounded(alloc, task, hint.best.as_slice())?;
+            Ok(NodeEnd::Stopped(prices))
+        }
+        end => Ok(end),
+    }
+}
+
+/// Solves the master of a node whose rows are there, once a hunt has ended with a basis.
+fn solve_hinted<W: Watch>(
+    alloc: Global,
+    task: &NodeTask,
+    hint: &Hint,
+    pricer: &mut Pricer,
+    pool: &mut Pool,
+    steering: &mut Steering,
+    watch: &W,
+) -> Result<NodeEnd, Memory>
+    requires { MaySolve task.now pricer.old pool.old }
+    ensures end { IfOk result (EndsCounted task.now pool.new (W.patient watch.now)) }
+    ensures tools { StayTools task.now.day pricer.new pool.old pool.new }
+{
+    let first = steering.first;
+    if hint.is_stopped || hint.is_early || first.is_near(hint.trees.len()) {
+        solve_near_first(alloc, task, hint, pricer, pool, steering, watch)
+    } else {
+        solve_exact_first(alloc, task, hint, pricer, pool, watch)
+    }
+}
+
 /// Solves the master of a node whose rows are there, steered to the basis that a hunt ends with.
 #[tactic(auto, using(search_columns::proofs::PoolGrowth::stay_chain))]
 fn solve_steered<W: Watch>(
@@ -126,9 +168,6 @@ fn solve_steered<W: Watch>(
 {
     let first = steering.first;
     let hint = hunt_basis(alloc, task, first.ending(), pricer, pool, steering, watch)?;
-    if hint.is_stopped || hint.is_early || first.is_near(hint.trees.len()) {
-        solve_near_first(alloc, task, &hint, pricer, pool, steering, watch)
-    } else {
-        solve_exact_first(alloc, task, &hint, pricer, pool, watch)
-    }
+    let end = solve_hinted(alloc, task, &hint, pricer, pool, steering, watch)?;
+    with_prices(alloc, task, &hint, end)
 }

@@ -5,6 +5,7 @@ ghost use Rattle.tree_pool.specs.Pools.{PoolTree, IsPool};
 ghost use Rattle.master_rows.specs.node_task.Tasks.{IsTask};
 ghost use Rattle.node_columns.specs.Columns.{IsDesk};
 
+use crate::asked::Asked;
 use crate::hunt::Hunt;
 use crate::scouting::{basic_own, basic_trees, placed_trees};
 use master_rows::NodeTask;
@@ -26,6 +27,8 @@ pub struct Hint {
     pub own: List<u32>,
     /// Its weights and prices.
     pub near: NearHint,
+    /// The best prices that were asked at, in units of 2^-40; none where none are known.
+    pub best: List<i128>,
     /// Whether the hunt ended before no tree was cheap, where the value was near to what the best prices
     /// show.
     pub is_early: bool,
@@ -85,6 +88,14 @@ fn fine_prices(alloc: Global, prices: &[i128]) -> Result<List<i128>, Memory> {
     Ok(fine)
 }
 
+/// Returns the best prices that were asked at, in units of 2^-40; none where none are known.
+fn best_of(alloc: Global, asked: &Asked) -> Result<List<i128>, Memory> {
+    match asked.bound() {
+        Some(_) => fine_prices(alloc, asked.best()),
+        None => Ok(List::new(alloc)),
+    }
+}
+
 /// Returns what a hunt gives for near prices; where it ended early, with the best prices that were asked at.
 fn near_of(alloc: Global, task: &NodeTask, pool: &Pool, hunt: &Hunt) -> Result<NearHint, Memory>
     requires { IsTask task.now }
@@ -128,6 +139,7 @@ pub(crate) fn hint_of(
         trees: basic_trees(alloc, held, &hunt.scout)?,
         own: basic_own(alloc, held, &hunt.scout)?,
         near: near_of(alloc, task, pool, hunt)?,
+        best: best_of(alloc, &hunt.asked)?,
         is_early: hunt.asked.early_prices().is_some(),
         is_stopped,
     })

@@ -1,8 +1,8 @@
 -- The answers of `curve`, from what its parts answer.
-use Rattle.std.proofs.Common.{◌≡◌, ◌≢◌, ℕ, ◌+◌, ◌<◌, ◌≤◌, arith, Bool, List, [], ◌∷◌, length, Option, None, Some, Result, Ok, Err, IfOk, refl, sym, ap, subst, ◌∙◌}
+use Rattle.std.proofs.Common.{◌≡◌, ◌≢◌, ℕ, ◌+◌, ◌<◌, ◌≤◌, arith, Bool, List, [], ◌∷◌, length, Option, None, Some, Result, Ok, Err, IfOk, refl, sym, ap, subst, ◌∙◌, ◌⊎◌, inl, inr}
 use Rattle.search_commands.specs.declared.limit.Limit.{Limit}
 use Rattle.search_commands.specs.declared.limit.Limit.TheVariants.{Turns, Seconds}
-use Rattle.search_commands.specs.Limits.{ForLimit, IsUsedUp}
+use Rattle.search_commands.specs.Limits.{IsLimit, ForLimit, IsUsedUp}
 use Rattle.roster_model.specs.declared.grammar.Grammar.{Grammar}
 use Rattle.roster_model.specs.declared.instance.Done.{Done}
 use Rattle.roster_model.specs.declared.instance.Done.TheVariants.{Equal, NoRoster, TurnsOut}
@@ -13,7 +13,8 @@ use Rattle.roster_model.specs.Folds.{Each}
 use Rattle.roster_model.specs.Sound.{IsSound}
 use Rattle.roster_model.specs.SoundInstance.{IsSoundInstance}
 use Rattle.branch_price.specs.declared.found.Found.{Found}
-use Rattle.branch_price.specs.Found.{IsFound, IsDone}
+use Rattle.certificates.specs.Nodes.{Proof}
+use Rattle.branch_price.specs.Found.{IsFound, IsWhole, IsStoppedRoot, IsDone}
 use Rattle.day_solver.specs.Solutions.{HasArcCount}
 use Rattle.demand_lines.specs.declared.fault.DemandFault.{DemandFault}
 use Rattle.demand_lines.specs.declared.fault.DemandFault.TheVariants as demand_faults
@@ -56,20 +57,28 @@ use Rattle.search_commands.proofs.SeriesLemmas.{widen, as_series, refused_fetch,
 use Rattle.search_commands.proofs.PointNames.{may_next, team-asked, team-left}
 
 -- a search that did not end with its turns closed its point
-open_ran_out : (i : Instance) (strict : Bool) (turns : ℕ) (f : Found) (d : Done) → f.done ≡ d → IsDone f.cert d → IsFound i strict turns f → f.cert.bound ≢ f.cert.cost → f.processed ≡ turns
-open_ran_out i strict turns f Equal e done is ne = absurd (ne done.1)
-open_ran_out i strict turns f NoRoster e done is ne = absurd (ne (done.1 ∙ sym done.0))
-open_ran_out i strict turns f TurnsOut e done is ne = let ran = is.ran_out e in ran.all
+open_ran_out : (i : Instance) (strict : Bool) (turns : ℕ) (f : Found) (proof : Proof) (d : Done) → f.done ≡ d → IsDone f.cert d → IsWhole i strict turns f proof → f.cert.bound ≢ f.cert.cost → f.processed ≡ turns
+open_ran_out i strict turns f proof Equal e done is ne = absurd (ne done.1)
+open_ran_out i strict turns f proof NoRoster e done is ne = absurd (ne (done.1 ∙ sym done.0))
+open_ran_out i strict turns f proof TurnsOut e done is ne = let ran = is.ran_out e in ran.all
 
-used_up : (i : Instance) (strict : Bool) (limit : Limit) (f : Found) → ForLimit limit (λ k. IsFound i strict k f) → f.cert.bound ≢ f.cert.cost → IsUsedUp limit f.processed
-used_up i strict (Turns n) f searched ne = open_ran_out i strict n f f.done refl searched.done searched ne
-used_up i strict (Seconds s) f searched ne = tt
+-- and one of a turn or more was not stopped in its first one
+used_all : (i : Instance) (strict : Bool) (turns : ℕ) (f : Found) → 1 ≤ turns → IsFound i strict turns f → f.cert.bound ≢ f.cert.cost → f.processed ≡ turns
+used_all i strict turns f some is ne = by is.whole
+  where
+    by : IsWhole i strict turns f is.proof ⊎ IsStoppedRoot turns f → f.processed ≡ turns
+    by (inl whole) = open_ran_out i strict turns f is.proof f.done refl is.done whole ne
+    by (inr root) = let none = root.none in absurd (omega (arith, some, none))
 
-ran_out_each : (i : Instance) (staff : Staff) (strict : Bool) (limit : Limit) (h r : ℕ) (kept : List Shift) (ps : List Point) → ArePoints i staff strict limit h r kept ps
+used_up : (i : Instance) (strict : Bool) (limit : Limit) (f : Found) → IsLimit limit → ForLimit limit (λ k. IsFound i strict k f) → f.cert.bound ≢ f.cert.cost → IsUsedUp limit f.processed
+used_up i strict (Turns n) f is searched ne = used_all i strict n f is.0 searched ne
+used_up i strict (Seconds s) f is searched ne = tt
+
+ran_out_each : (i : Instance) (staff : Staff) (strict : Bool) (limit : Limit) (h r : ℕ) (kept : List Shift) (ps : List Point) → IsLimit limit → ArePoints i staff strict limit h r kept ps
     → Each (λ (p : CurvePoint). p.bound ≢ p.cost → IsUsedUp limit p.processed) (said_points h ps)
-ran_out_each i staff strict limit h r kept [] are = tt
-ran_out_each i staff strict limit h r kept (p ∷ ps) are =
-    (used_up (with_heads staff i h) strict limit p.found are.0.searched, ran_out_each i staff strict limit (h + 1) p.refused p.found.cert.shifts ps are.2)
+ran_out_each i staff strict limit h r kept [] is are = tt
+ran_out_each i staff strict limit h r kept (p ∷ ps) is are =
+    (used_up (with_heads staff i h) strict limit p.found is are.0.searched, ran_out_each i staff strict limit (h + 1) p.refused p.found.cert.shifts ps is are.2)
 
 -- a cost that is at most one which is at most another is at most that
 no_dearer : (a b c : Option ℕ) → IsNoDearer a b → IsNoDearer b c → IsNoDearer a c
@@ -147,7 +156,7 @@ module _ (i : Instance) (group : Option (List ℕ)) (proof : List ℕ) (m : Mast
     pub curve-left : IsTurnedDown (MayStoreTeam proof staff i) before after status → IsSeriesWriter (Curving i group proof m limit) [] (MayStorePoints proof group i) before after status
     curve-left a = turned_down (Curving i group proof m limit) (MayStorePoints proof group i) before after status (team-left proof group staff i team before after status a)
 
-    module _ (middle : Told) (kept : List Shift) (said : List CurvePoint) (arcs : (n : ℕ) × HasArcCount i.grammar n) (f : FindsFirst i staff proof m limit (point_count staff i) kept before middle said) where
+    module _ (middle : Told) (kept : List Shift) (said : List CurvePoint) (is : IsLimit limit) (arcs : (n : ℕ) × HasArcCount i.grammar n) (f : FindsFirst i staff proof m limit (point_count staff i) kept before middle said) where
       -- what is said of all points
       all_said : (s : ℕ) (o : List ℕ) → s ≡ curve_status said → o ≡ curve_text group said → Curving i group proof m limit (answered s o) (point_entries proof (first_heads staff i) f.points)
       all_said s o status_is text =
@@ -162,7 +171,7 @@ module _ (i : Instance) (group : Option (List ℕ)) (proof : List ℕ) (m : Mast
             counted = f.counted;
             stored_is = refl;
             falls = falling i staff (named-staff i group staff team) m.strict limit (first_heads staff i) m.before [] f.points f.are;
-            ran_out = ran_out_each i staff m.strict limit (first_heads staff i) m.before [] f.points f.are;
+            ran_out = ran_out_each i staff m.strict limit (first_heads staff i) m.before [] f.points is f.are;
             status_is = status_is ∙ ap (λ (ps : List CurvePoint). curve_status ps) f.is;
             text = text ∙ ap (λ (ps : List CurvePoint). curve_text group ps) f.is;
           })

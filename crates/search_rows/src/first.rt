@@ -125,7 +125,7 @@ pub(crate) fn are_near_halves(end: &NodeEnd) -> bool {
                 && weights.len() == 3
                 && weights.as_slice().iter().all(|weight| is_half(weight))
         }
-        NodeEnd::Best { .. } | NodeEnd::Failed(_) | NodeEnd::Stopped => false,
+        NodeEnd::Best { .. } | NodeEnd::Failed(_) | NodeEnd::Stopped(_) => false,
     }
 }
 
@@ -153,7 +153,7 @@ pub(crate) fn are_near_thirds(end: &NodeEnd) -> bool {
                     .iter()
                     .all(|weight| is_about_2_thirds(weight))
         }
-        NodeEnd::Best { .. } | NodeEnd::Failed(_) | NodeEnd::Stopped => false,
+        NodeEnd::Best { .. } | NodeEnd::Failed(_) | NodeEnd::Stopped(_) => false,
     }
 }
 

@@ -141,7 +141,7 @@ fn are_halves(end: &NodeEnd) -> bool {
                 && weights.len() == 3
                 && weights.as_slice().iter().all(|weight| is_half(weight))
         }
-        NodeEnd::Near { .. } | NodeEnd::Failed(_) | NodeEnd::Stopped => false,
+        NodeEnd::Near { .. } | NodeEnd::Failed(_) | NodeEnd::Stopped(_) => false,
     }
 }
 

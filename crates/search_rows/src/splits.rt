@@ -102,7 +102,7 @@ fn near_weights(
 {
     match solve(alloc, day, graph, lent, First::Near)? {
         NodeEnd::Near { weights, .. } => Ok(weights),
-        NodeEnd::Best { .. } | NodeEnd::Failed(_) | NodeEnd::Stopped => {
+        NodeEnd::Best { .. } | NodeEnd::Failed(_) | NodeEnd::Stopped(_) => {
             Err(Fail::from("no near end"))
         }
     }

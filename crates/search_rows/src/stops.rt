@@ -64,7 +64,7 @@ fn solve_until(
         tally,
     )?;
     Ok(Watched {
-        is_stopped: matches!(end, NodeEnd::Stopped),
+        is_stopped: matches!(end, NodeEnd::Stopped(_)),
         asked: watch.asked(),
     })
 }

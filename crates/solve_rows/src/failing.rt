@@ -31,7 +31,7 @@ fn count_end(refused: u64, end: &NodeEnd) -> u64
         NodeEnd::Best { .. }
         | NodeEnd::Near { .. }
         | NodeEnd::Failed(Cause::Rows { .. })
-        | NodeEnd::Stopped => refused,
+        | NodeEnd::Stopped(_) => refused,
         NodeEnd::Failed(Cause::Wide(_)) | NodeEnd::Failed(Cause::Spent { .. }) => {
             refused.saturating_add(1)
         }

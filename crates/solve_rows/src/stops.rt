@@ -46,8 +46,18 @@ struct SearchEnd {
     cost: Option<u64>,
     bound: Option<u64>,
     processed: u32,
+    /// How many nodes the certificate has.
+    nodes: usize,
     /// How often the watch was asked.
     asked: u32,
+}
+
+impl SearchEnd {
+    /// Whether the root alone, which is processed, shows a bound above 0 and below this cost.
+    fn is_bounded_below(&self, cost: u64) -> bool {
+        let shows = self.bound.is_some_and(|bound| 0 < bound && bound < cost);
+        self.done == Done::TurnsOut && self.nodes == 1 && self.processed == 1 && shows
+    }
 }
 
 /// Returns how a search ended that found this.
@@ -57,6 +67,7 @@ fn watched_of(found: &Found, watch: &NthWatch) -> SearchEnd {
         cost: found.cert.cost,
         bound: found.cert.bound,
         processed: found.processed,
+        nodes: found.cert.nodes.len(),
         asked: watch.asked(),
     }
 }
@@ -205,6 +216,24 @@ fn a_first_roster_where_equal_shifts_miss_a_floor(rt: HostRuntime) -> Result<(),
     let found = watched(rt.alloc(), &FLOOR_DAY, false, Some(1))?;
     assert!(rt; found.done == Done::TurnsOut && found.processed == 0);
     assert!(rt; found.cost == Some(4));
+    Ok(())
+}
+
+/// Whether a stop at some question leaves the root prices that show more than 0 and less than the day's cost.
+fn keeps_prices(alloc: Global, parts: &DayParts, cost: u64) -> Result<bool, Fail> {
+    let whole = watched(alloc, parts, false, None)?;
+    for number in 1..=whole.asked {
+        let stopped = watched(alloc, parts, false, Some(number))?;
+        if stopped.is_bounded_below(cost) {
+            return Ok(true);
+        }
+    }
+    Ok(false)
+}
+
+#[test]
+fn a_root_that_is_stopped_once_prices_were_asked_at(rt: HostRuntime) -> Result<(), Fail> {
+    assert!(rt; keeps_prices(rt.alloc(), &PAIR_DAY, 4)?);
     Ok(())
 }
 

@@ -1,4 +1,4 @@
-use Rattle.std.proofs.Common.{◌≡◌, Option, Some, arith, ◌∙◌, refl, sym, subst}
+use Rattle.std.proofs.Common.{◌≡◌, ◌≤◌, Option, Some, arith, ◌∙◌, refl, sym, subst}
 use Rattle.candidate_rosters.proofs.PoolNumbers.{grown-more}
 use Rattle.branch_price.specs.Ends.{AsksEnd, IsFoundAtEnd, IsFoundHalted}
 use Rattle.branch_price.specs.Turns.{TakesTurn}
@@ -8,10 +8,11 @@ use Rattle.candidate_rosters.specs.declared.roster.Roster.{Roster}
 use Rattle.candidate_rosters.specs.Offers.{cost_of}
 use Rattle.roster_model.specs.declared.instance.Done.TheVariants.{TurnsOut}
 use Rattle.branch_price.specs.Jobs.{IsJobDone}
+use Rattle.branch_price.specs.Roots.{IsFoundHaltedAtRoot}
 use Rattle.branch_price.specs.OldRosters.{ReachesOld}
 use Rattle.branch_price.proofs.JobsLemmas.{both-ok}
 use Rattle.branch_price.proofs.ToolsLemmas.{tools-later}
-use Rattle.branch_price.proofs.LoopsLemmas.{begun-loops, asks-turn, turn-loops, turn-nears, turn-reaches, turn-halts, stopped-end, closed-end}
+use Rattle.branch_price.proofs.LoopsLemmas.{begun-loops, asks-turn, turn-loops, turn-nears, turn-reaches, turn-halts, turn-halts-at-root, stopped-end, closed-end}
 use Rattle.branch_price.proofs.OldLemmas.{no-dearer}
 use Rattle.search_watch.proofs.WithinLemmas.{within-all}
 use Rattle.branch_price.proofs.branching.search_along.Goals as goal
@@ -218,3 +219,51 @@ returns-in-Stopped-clause-rises g c = let a = c.loop-leaf.invariant.0.rises in l
 
 pub returns-in-Stopped-clause-strict_stays : goal.returns-in-Stopped-clause-strict_stays
 returns-in-Stopped-clause-strict_stays g c = c.turn.ensures.strict_stays ∙ c.loop-leaf.invariant.1
+
+pub halted_at_root-requires-clause-halted : goal.halted_at_root-requires-clause-halted
+halted_at_root-requires-clause-halted g c =
+    let j = c.args.job.now in
+    let d = j.searched.day in
+    let strict = g.M.Master.strict c.args.master.now in
+    let same = g.M.Master.strict c.loop-leaf.master in
+    let patient = g.W.Watch.patient c.stops_at.new.watch in
+    let before = g.M.Master.refused c.args.master.now in
+    let now = g.M.Master.refused c.loop-leaf.master in
+    let later = g.M.Master.refused c.turn.new.master in
+    let stopped = subst (λ (e : TurnEnd). TakesTurn d same now later patient c.next.new.self c.in-Some.leaf c.turn.new.progress e) c.in-StoppedAtRoot.is c.in_ok-end.ensures.turned in
+    (turn-halts-at-root d.instance.now d.graph.now strict before now j.turns c.requires.job.few c.loop-leaf.progress c.next.new.self c.in-Some.leaf c.loop-leaf.invariant.0 c.in-Some.ensures same c.loop-leaf.invariant.1
+    (c.stops_at.ensures.goes_on c.if-stops_at.false) later patient c.turn.new.progress c.in-StoppedAtRoot.root stopped).halted
+
+pub returns-in-StoppedAtRoot-clause-found : goal.returns-in-StoppedAtRoot-clause-found
+returns-in-StoppedAtRoot-clause-found g c =
+    let j = c.args.job.now in
+    let d = j.searched.day in
+    let i = d.instance.now in
+    let strict = g.M.Master.strict c.args.master.now in
+    let same = g.M.Master.strict c.loop-leaf.master in
+    let patient = g.W.Watch.patient c.stops_at.new.watch in
+    let before = g.M.Master.refused c.args.master.now in
+    let now = g.M.Master.refused c.loop-leaf.master in
+    let later = g.M.Master.refused c.turn.new.master in
+    let calm = g.W.Watch.patient c.args.watch.now in
+    let best = c.turn.new.progress.best in
+    let stopped = subst (λ (e : TurnEnd). TakesTurn d same now later patient c.next.new.self c.in-Some.leaf c.turn.new.progress e) c.in-StoppedAtRoot.is c.in_ok-end.ensures.turned in
+    let halts = turn-halts-at-root i d.graph.now strict before now j.turns c.requires.job.few c.loop-leaf.progress c.next.new.self c.in-Some.leaf c.loop-leaf.invariant.0 c.in-Some.ensures same c.loop-leaf.invariant.1
+    (c.stops_at.ensures.goes_on c.if-stops_at.false) later patient c.turn.new.progress c.in-StoppedAtRoot.root stopped in
+    let reach : ReachesOld i j.start.shifts.now best = λ x costs. let f = halts.falls in let r = c.loop-leaf.invariant.5 x costs in omega (arith, f, r) in
+    let rises : before ≤ later = let a = c.loop-leaf.invariant.0.rises in let b = c.turn.ensures.rises in omega (arith, a, b) in
+    both-ok c.halted_at_root.result (IsFoundHaltedAtRoot i) (λ f. f.cert.cost ≡ cost_of best) (IsJobDone j calm strict before later)
+    (λ f h cost. record {
+      found = record { used = 0; few = omega arith; whole = λ patience. absurd (halts.restless (c.stops_at.ensures.stays_patient (c.loop-leaf.invariant.4 patience))); holds = h.found strict };
+      falls = no-dearer i c.requires.job.searched.is.day.sound j.start.shifts.now best reach f.cert.cost cost;
+      counted = h.counted before later rises;
+    }) c.halted_at_root.ensures.found c.halted_at_root.ensures.cost
+
+pub returns-in-StoppedAtRoot-clause-pool : goal.returns-in-StoppedAtRoot-clause-pool
+returns-in-StoppedAtRoot-clause-pool g c = record { are = c.turn.ensures.tools.pool.are; grown = grown-more c.args.pool.now c.loop-leaf.pool c.turn.new.pool c.loop-leaf.invariant.3 c.turn.ensures.tools.pool.grown }
+
+pub returns-in-StoppedAtRoot-clause-rises : goal.returns-in-StoppedAtRoot-clause-rises
+returns-in-StoppedAtRoot-clause-rises g c = let a = c.loop-leaf.invariant.0.rises in let b = c.turn.ensures.rises in omega (arith, a, b)
+
+pub returns-in-StoppedAtRoot-clause-strict_stays : goal.returns-in-StoppedAtRoot-clause-strict_stays
+returns-in-StoppedAtRoot-clause-strict_stays g c = c.turn.ensures.strict_stays ∙ c.loop-leaf.invariant.1

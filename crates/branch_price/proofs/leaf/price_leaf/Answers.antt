@@ -1,6 +1,7 @@
 use Rattle.std.proofs.Common.{sym, ◌∙◌}
+use Rattle.std.proofs.lemmas.Result.{IfOk-weaker}
 use Rattle.branch_price.proofs.Leaves.{leaf-cuts}
-use Rattle.branch_price.proofs.StepsLemmas.{later-node, turn-stopped}
+use Rattle.branch_price.proofs.StepsLemmas.{later-node}
 use Rattle.branch_price.proofs.SolvedEnds.{solved-end, failed-end, stopped-end}
 use Rattle.branch_price.proofs.ToolsLemmas.{tools-later, more-tools}
 use Rattle.branch_price.proofs.leaf.price_leaf.Goals as goal
@@ -64,28 +65,39 @@ returns-in_ok-best_leaf-in-Solved-clause-turned g c =
     λ before low asked. c.in_ok-best_leaf-in-Solved.ensures.turned strict before later low
     (later-node n.searched.day.instance.now n.searched.day.graph.now strict before now later low c.args.progress.now c.args.leaf n.cuts.now asked c.ask_master.ensures.counted.rises c.ask_master.ensures.counted.within)
 
-pub returns-in_ok-offer_late-in-Stopped-clause-turned : goal.returns-in_ok-offer_late-in-Stopped-clause-turned
-returns-in_ok-offer_late-in-Stopped-clause-turned g c =
+pub stop_leaf-requires-clause-desk : goal.stop_leaf-requires-clause-desk
+stop_leaf-requires-clause-desk g c = c.ask_master.ensures.tools.desk
+
+pub stop_leaf-requires-clause-own : goal.stop_leaf-requires-clause-own
+stop_leaf-requires-clause-own g c =
     let n = c.args.node.now in
     let strict = g.M.Master.strict c.args.master.now in
     let patient = g.W.Watch.patient c.args.watch.now in
     let now = g.M.Master.refused c.args.master.now in
     let later = g.M.Master.refused c.ask_master.new.master in
-    let stops = stopped-end n.searched.day.instance.now n.cuts.now c.ask_master.new.pool now later strict patient c.in_ok-end.end c.in_ok-end.ensures.end c.in_ok-end.ensures.counted.counts c.ask_master.ensures.counted.within (sym c.outcome_of.ensures ∙ c.in-Stopped.is) in
-    λ before low asked. turn-stopped n.searched.day.instance.now n.searched.day.graph.now strict before now later low patient c.args.progress.now c.args.leaf n.cuts.now c.offer_late.new.best asked
-    c.offer_late.ensures.better stops.0 stops.1
+    let stops = stopped-end n.searched.day.instance.now n.cuts.now c.ask_master.new.pool now later strict patient c.in_ok-end.end c.in_ok-end.ensures.end c.in_ok-end.ensures.counted.counts c.ask_master.ensures.counted.within c.in-Stopped.own (sym c.outcome_of.ensures ∙ c.in-Stopped.is) in
+    stops.1.0
 
-pub offer_late-requires-clause-good : goal.offer_late-requires-clause-good
-offer_late-requires-clause-good g c = c.requires.leaf.2.is.best
+pub stop_leaf-requires-clause-leaf : goal.stop_leaf-requires-clause-leaf
+stop_leaf-requires-clause-leaf g c = let r = c.requires.leaf in (g.M.Master.strict c.args.master.now, r.0, g.M.Master.refused c.args.master.now, r.1, r.2)
 
-pub offer_late-requires-clause-desk : goal.offer_late-requires-clause-desk
-offer_late-requires-clause-desk g c = c.ask_master.ensures.tools.desk
+pub returns-in-Stopped-clause-turned : goal.returns-in-Stopped-clause-turned
+returns-in-Stopped-clause-turned g c =
+    let n = c.args.node.now in
+    let i = n.searched.day.instance.now in
+    let v = n.searched.day.graph.now in
+    let strict = g.M.Master.strict c.args.master.now in
+    let patient = g.W.Watch.patient c.args.watch.now in
+    let now = g.M.Master.refused c.args.master.now in
+    let later = g.M.Master.refused c.ask_master.new.master in
+    let stops = stopped-end i n.cuts.now c.ask_master.new.pool now later strict patient c.in_ok-end.end c.in_ok-end.ensures.end c.in_ok-end.ensures.counted.counts c.ask_master.ensures.counted.within c.in-Stopped.own (sym c.outcome_of.ensures ∙ c.in-Stopped.is) in
+    IfOk-weaker c.stop_leaf.result _ _
+    (λ end ends before low asked. ends strict before later low patient stops.0
+    (later-node i v strict before now later low c.args.progress.now c.args.leaf n.cuts.now asked c.ask_master.ensures.counted.rises c.ask_master.ensures.counted.within))
+    c.stop_leaf.ensures.stops
 
-pub returns-in_ok-offer_late-in-Stopped-clause-tools : goal.returns-in_ok-offer_late-in-Stopped-clause-tools
-returns-in_ok-offer_late-in-Stopped-clause-tools g c = record { pool = c.ask_master.ensures.tools.pool; desk = c.offer_late.ensures.desk }
-
-pub returns-in_err-offer_late-in-Stopped-clause-tools : goal.returns-in_err-offer_late-in-Stopped-clause-tools
-returns-in_err-offer_late-in-Stopped-clause-tools g c = record { pool = c.ask_master.ensures.tools.pool; desk = c.offer_late.ensures.desk }
+pub returns-in-Stopped-clause-tools : goal.returns-in-Stopped-clause-tools
+returns-in-Stopped-clause-tools g c = record { pool = c.ask_master.ensures.tools.pool; desk = c.stop_leaf.ensures.desk }
 
 pub give_up_leaf-requires-clause-tools : goal.give_up_leaf-requires-clause-tools
 give_up_leaf-requires-clause-tools g c = tools-later c.args.node.now.searched.day c.args.pool.now c.ask_master.new.pool c.ask_master.new.desk c.ask_master.ensures.tools

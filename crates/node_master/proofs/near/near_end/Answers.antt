@@ -6,7 +6,7 @@ use Rattle.bound_laws.specs.near_laws.Laws.{AreNear}
 use Rattle.near_prices.specs.Listed.{AreWeightsOf}
 use Rattle.near_prices.proofs.ListedTrees.{weights, days}
 use Rattle.node_master.specs.Listed.{MayBeListed, AreSharesOf}
-use Rattle.node_master.specs.Tasks.{FitNode}
+use Rattle.node_master.specs.Ends.{FitNode}
 use Rattle.node_master.proofs.NearEnds.{are_weights, apart}
 use Rattle.node_master.proofs.near.near_end.Goals as goal
 
