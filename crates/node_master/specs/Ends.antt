@@ -1,5 +1,5 @@
 -- How the master of a node ends.
-use Rattle.std.specs.Prelude.{ℕ, ℤ, pos, unsigned_abs, ◌≡◌, ◌≤◌, ◌<◌, ◌-◌, ◌^◌, ◌*ℤ◌, ◌+ℤ◌, ◌≤ℤ◌, ◌<ℤ◌, ◌⊎◌, Bool, IsTrue, Option, None, IfSome, List, ◌++◌, length, Result, Ok, IsErr}
+use Rattle.std.specs.Prelude.{ℕ, ℤ, pos, unsigned_abs, ◌≡◌, ◌≤◌, ◌<◌, ◌-◌, ◌^◌, ◌*ℤ◌, ◌+ℤ◌, ◌≤ℤ◌, ◌<ℤ◌, ◌⊎◌, Bool, IsTrue, None, IfSome, List, ◌++◌, length, Result, Ok, IsErr}
 use Rattle.roster_model.specs.declared.grammar.ArcKey.{ArcKey}
 use Rattle.roster_model.specs.declared.instance.Cut.{Cut}
 use Rattle.roster_model.specs.declared.instance.Instance.{Instance}

@@ -1,7 +1,6 @@
 -- Nodes whose masters may be solved, and how they end.
 use Rattle.std.specs.Prelude.{ℤ, ◌≡◌, ◌<◌, ◌^◌, Bool, List, length}
 use Rattle.roster_model.specs.declared.instance.Cut.{Cut}
-use Rattle.roster_model.specs.declared.instance.Instance.{Instance}
 use Rattle.roster_model.specs.declared.instance.Prices.{Prices}
 use Rattle.roster_model.specs.Folds.{Each}
 use Rattle.roster_model.specs.Trees.{Parts, IsDayTree}
