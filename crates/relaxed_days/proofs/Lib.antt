@@ -1,0 +1,6 @@
+mod FreeTrees
+mod FreeSound
+mod RelaxedSound
+mod RelaxedRosters
+mod RelaxedCosts
+mod SaidTexts
