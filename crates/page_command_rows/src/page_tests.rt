@@ -182,7 +182,7 @@ viewBox='0 0 1088 66' width='1088' height='66'>
 <text class='tick' x='716' y='127'>18:00</text><text class='tick' x='776' y='127'>19:00</text></svg>
 ~ page day all_day long quarters
 0 ..
-<text class='tick' x='936' y='20'>22:00</text><text class='tick' x='976' y='20'>23:00</text>\
+<text class='tick' x='856' y='20'>20:00</text><text class='tick' x='936' y='20'>22:00</text>\
 <text class='tick' x='1016' y='20'>0:00 +1</text><g
 ~ page g1 two best nights
 0 ..

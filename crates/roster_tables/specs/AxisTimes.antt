@@ -8,9 +8,9 @@ use Rattle.page_parts.specs.Elements.{places}
 abbrev pub minutes_of : Clock → ℕ
 minutes_of c = max c.minutes 1
 
--- the last period ends behind midnight, so that ` +1` stands behind some times
+-- the last period ends at midnight or behind it, so that ` +1` stands behind some times
 abbrev pub is_late : Clock → ℕ → Bool
-is_late c periods = nat_lt 1440 (c.begin + c.minutes * periods)
+is_late c periods = nat_le 1440 (c.begin + c.minutes * periods)
 
 -- at every how many of so many periods a time has room: 40 pixels, and 48 for times with ` +1`
 abbrev pub plain_step : ℕ → ℕ

@@ -14,11 +14,11 @@ fn length_of(clock: Clock, periods: u8) -> u64
     u64::from(clock.minutes) * u64::from(periods)
 }
 
-// Whether the last period ends behind midnight, so that ` +1` stands behind some times.
+// Whether the last period ends at midnight or behind it, so that ` +1` stands behind some times.
 fn is_late(clock: Clock, periods: u8) -> bool
     ensures { result ≡ is_late clock periods }
 {
-    1440 < clock.begin as u64 + length_of(clock, periods)
+    1440 <= clock.begin as u64 + length_of(clock, periods)
 }
 
 // Returns at every how many of so many periods there are 40 pixels for a time.
