@@ -1,0 +1,17 @@
+pub mod SpellLemmas
+pub mod Sides
+pub mod Trees
+pub mod Words
+pub mod Merge
+pub mod Up
+pub mod Down
+pub mod Cases
+pub mod Sizes
+pub mod PlanLaws
+pub mod Ties
+pub mod Unique
+pub mod Row
+pub mod Small
+pub mod Counts
+pub mod Turning
+pub mod WholeRules

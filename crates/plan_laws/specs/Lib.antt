@@ -1,0 +1,9 @@
+pub mod Named
+pub mod Spells
+pub mod PeriodShifts
+pub mod Names
+pub mod Laws
+pub mod Readings
+pub mod SmallPlan
+pub mod Turned
+pub mod PlanRules

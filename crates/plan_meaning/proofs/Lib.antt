@@ -1,0 +1,2 @@
+pub mod FirstTimes
+pub mod WorkedRows
