@@ -41,7 +41,8 @@ is_regular c periods place =
 abbrev pub is_shown : Clock → ℕ → ℕ → Bool
 is_shown c periods place =
     nat_eq place 0
-    || (is_regular c periods place && nat_le (step_at c periods) place && nat_le (place + step_at c periods) periods)
+    || (is_regular c periods place && nat_le (step_at c periods) place
+    && nat_le (place + step_at c periods) periods)
 
 -- the time where the period behind so many begins, or nothing
 unfoldable pub axis_time : Clock → ℕ → ℕ → List ℕ

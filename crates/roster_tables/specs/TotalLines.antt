@@ -39,7 +39,8 @@ total_line cs d shifts columns k c = record {
   share = covered_share (needed k columns 0) (missing k columns 0);
 }
 
-abbrev pub total_lines : List CodeDef → Labels → List Shift → List CellCover → ℕ → List CodeDef → List TotalLine
+abbrev pub total_lines : List CodeDef → Labels → List Shift → List CellCover → ℕ → List CodeDef
+    → List TotalLine
 total_lines cs d shifts columns k [] = []
 total_lines cs d shifts columns k (x ∷ xs) =
     total_line cs d shifts columns k x ∷ total_lines cs d shifts columns (k + 1) xs

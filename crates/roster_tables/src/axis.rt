@@ -1,6 +1,17 @@
 ghost use Rattle.std.specs.Prelude.{◌≡◌, ◌≤◌, ◌+◌, ◌*◌, ◌^◌, map, IfOk};
 ghost use Rattle.page_parts.specs.Elements.{places};
-ghost use Rattle.roster_tables.specs.AxisTimes.{axis_time, axis_times, is_hour, is_hourly, is_late, is_regular, is_shown, late_step, plain_step, step_at};
+ghost use Rattle.roster_tables.specs.AxisTimes.{
+  axis_time,
+  axis_times,
+  is_hour,
+  is_hourly,
+  is_late,
+  is_regular,
+  is_shown,
+  late_step,
+  plain_step,
+  step_at,
+};
 
 use page_labels::{Clock, put_time};
 use roster_model::{List, Memory};
@@ -138,10 +149,10 @@ fn clock_times(alloc: Global, clock: Clock, periods: u8) -> Result<List<List<u8>
     Ok(times)
 }
 
-/// Returns for each period the time that stands on the axes of the charts where it begins, or nothing: at each
-/// period that has room, else at whole hours, where they begin periods and have room, else at every so many
-/// periods, and in any case at the first one. Behind them stands when the last period ends. Without a clock there is none at
-/// all.
+/// Returns for each period the time that stands on the axes of the charts where it begins, or nothing: at
+/// each period that has room, else at whole hours, where they begin periods and have room, else at every so
+/// many periods, and in any case at the first one. Behind them stands when the last period ends. Without a
+/// clock there is none at all.
 ///
 /// # Errors
 ///

@@ -1,4 +1,5 @@
-//! The tables and lists of a roster's page, from a day, its shifts, how its cells are covered, and its labels.
+//! The tables and lists of a roster's page, from a day, its shifts, how its cells are covered, and its
+//! labels.
 #![tactic(auto)]
 
 mod axis;

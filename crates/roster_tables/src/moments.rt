@@ -1,6 +1,13 @@
 ghost use Rattle.std.specs.Prelude.{◌≡◌, ◌-◌, ◌++◌, codes as text, IfOk, OnOk};
 ghost use Rattle.std.specs.Fmt.{decimal};
-ghost use Rattle.roster_tables.specs.Moments.{begin_text, duration, end_text, moment, stretch_begin, stretch_end};
+ghost use Rattle.roster_tables.specs.Moments.{
+  begin_text,
+  duration,
+  end_text,
+  moment,
+  stretch_begin,
+  stretch_end,
+};
 
 use crate::called::copied;
 use page_labels::{Clock, put_duration, put_time};

@@ -2,7 +2,15 @@ ghost use Rattle.std.specs.Prelude.{◌≡◌, ◌++◌, [], ◌∷◌, IfOk, On
 ghost use Rattle.std.specs.List.{flat_map};
 ghost use Rattle.page_text.specs.Costs.{AreDayColumns};
 ghost use Rattle.shift_figures.specs.Runs.{AreDayLacks};
-ghost use Rattle.roster_tables.specs.RunLines.{cost_of, run_line, run_lines, shortage_of, shortages, surplus_lines, surplus_of};
+ghost use Rattle.roster_tables.specs.RunLines.{
+  cost_of,
+  run_line,
+  run_lines,
+  shortage_of,
+  shortages,
+  surplus_lines,
+  surplus_of,
+};
 
 use crate::called::code_called;
 use crate::moments::{begin_text, end_text};

@@ -27,7 +27,8 @@ fn is_named(labels: &Labels) -> bool
     labels.shifts.len() > 0
 }
 
-/// Returns the tables and lists of a roster of at most 64 shifts, from how it covers the day's cells and from labels.
+/// Returns the tables and lists of a roster of at most 64 shifts, from how it covers the day's cells and from
+/// labels.
 ///
 /// # Errors
 ///

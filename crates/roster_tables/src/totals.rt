@@ -1,5 +1,13 @@
 ghost use Rattle.std.specs.Prelude.{◌≡◌, ◌≤◌, ◌+◌, ◌^◌, ◌++◌, [], ◌∷◌, All, IfOk, OnOk, length};
-ghost use Rattle.roster_tables.specs.TotalLines.{all_covered, all_missing, all_needed, missing, needed, total_line, totals_of};
+ghost use Rattle.roster_tables.specs.TotalLines.{
+  all_covered,
+  all_missing,
+  all_needed,
+  missing,
+  needed,
+  total_line,
+  totals_of,
+};
 
 use crate::called::code_called;
 use page_labels::Labels;
@@ -63,8 +71,8 @@ fn all_missing(columns: &[CellCover]) -> u64
     sum
 }
 
-/// Returns which share of the need is covered in all, in tenths of a percent, rounded down, or none where nothing
-/// is needed.
+/// Returns which share of the need is covered in all, in tenths of a percent, rounded down, or none where
+/// nothing is needed.
 pub fn all_covered(columns: &[CellCover]) -> Option<u64>
     requires { length columns.now ≤ 768 }
     ensures { result ≡ all_covered columns.now }
