@@ -98,7 +98,7 @@ module _ (i : Instance) (sound : IsSoundInstance i) (best : Option Roster) (root
         whole = inr (record { none = refl; prices = root.prices; nodes = refl; few = is.shown.few; done = refl });
         loose = λ h. (is.loose, tt);
         infeasible = λ h. absurd (is.busy h);
-        arcless = λ none. absurd (none is.loose.0 is.loose.1.0);
+        arcless = λ none. absurd (none is.loose.0 is.loose.1);
         processed = refl;
         failed = refl;
         done = done-of found_at_root.cert TurnsOut (subst (λ (x : Option ℕ). IsDoneAt x (Some root.value) TurnsOut) (sym costs) open-end);

@@ -1,4 +1,5 @@
 ghost use Rattle.std.specs.Prelude.{IfOk, IfSome};
+ghost use Rattle.roster_model.specs.SoundInstance.{IsSoundInstance};
 ghost use Rattle.master_rows.specs.search_day.Days.{IsDay};
 ghost use Rattle.candidate_rosters.specs.Rosters.{IsGoodRoster};
 ghost use Rattle.roster_holes.specs.Found.{AreSoundShifts};
@@ -33,12 +34,9 @@ pub(crate) struct HolePlace<'a> {
 }
 
 /// Returns what holes are opened for.
-fn task_of<'a>(
-    instance: &Instance,
-    turn: u32,
-    bound: u64,
-    best: &'a Option<Roster>,
-) -> HoleTask<'a> {
+fn task_of<'a>(instance: &Instance, turn: u32, bound: u64, best: &'a Option<Roster>) -> HoleTask<'a>
+    requires { IsSoundInstance instance.now }
+{
     HoleTask {
         shifts: best_shifts(best),
         cost: limit(instance, best),

@@ -76,7 +76,7 @@ stop_leaf-requires-clause-own g c =
     let now = g.M.Master.refused c.args.master.now in
     let later = g.M.Master.refused c.ask_master.new.master in
     let stops = stopped-end n.searched.day.instance.now n.cuts.now c.ask_master.new.pool now later strict patient c.in_ok-end.end c.in_ok-end.ensures.end c.in_ok-end.ensures.counted.counts c.ask_master.ensures.counted.within c.in-Stopped.own (sym c.outcome_of.ensures ∙ c.in-Stopped.is) in
-    stops.1.0
+    stops.1
 
 pub stop_leaf-requires-clause-leaf : goal.stop_leaf-requires-clause-leaf
 stop_leaf-requires-clause-leaf g c = let r = c.requires.leaf in (g.M.Master.strict c.args.master.now, r.0, g.M.Master.refused c.args.master.now, r.1, r.2)

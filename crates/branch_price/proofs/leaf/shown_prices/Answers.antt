@@ -7,4 +7,5 @@ shown_value-value-requires-clause-prices c = record { fit = c.requires.lawful.fi
 
 pub returns-clause-shown : goal.returns-clause-shown
 returns-clause-shown c =
-    lawful-shown c.args.node.now.searched.day.instance.now c.args.node.now.cuts.now c.args.prices c.shown_value-value.result c.args.limit c.requires.lawful c.shown_value-value.ensures.value _
+    lawful-shown c.args.node.now.searched.day.instance.now c.args.node.now.cuts.now c.args.prices c.shown_value-value.result c.args.limit c.requires.lawful c.shown_value-value.ensures.value
+    (let no = c.if-value-limit.false in omega (arith, no))
