@@ -39,4 +39,4 @@ pub use fault::{Limit, RulesFault};
 pub use laws::{accepted_lines, one_reading, refused_line, written_again};
 pub use message::fault_line;
 pub use read::read_rules;
-pub use write::write_rules;
+pub use write::{append_rule, write_rules};

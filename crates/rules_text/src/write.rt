@@ -108,8 +108,12 @@ fn start_line(out: &mut List<u8>, names: &[List<u8>], start: u8) -> Result<(), M
     out.push(b'\n')
 }
 
-// Appends the line of a rule.
-fn rule_line(
+/// Appends the line of a rule, as it stands in the text that `write_rules` writes.
+///
+/// # Errors
+///
+/// `Memory` where memory runs out; a part of the line may stand at the end of `out` then.
+pub fn append_rule(
     out: &mut List<u8>,
     codes: &[CodeDef],
     names: &[List<u8>],
@@ -140,7 +144,7 @@ fn rule_lines(
     ensures { OnOk result (out.new ≡ out.old ++ written (map (rule_line codes.now names.now) rules.now)) }
 {
     for rule in rules {
-        rule_line(out, codes, names, rule)?;
+        append_rule(out, codes, names, rule)?;
     }
     Ok(())
 }

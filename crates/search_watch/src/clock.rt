@@ -150,7 +150,7 @@ impl<R: Clock + Eprint + Drop> ClockWatch<R> {
             ..
         } = self.work.get()
         {
-            let _lost = eprint!(self.rt; ", bound {bound} so far (not in the report)");
+            let _lost = eprint!(self.rt; ", bound {bound} so far");
         }
     }
 

@@ -4,7 +4,7 @@ use Rattle.std.specs.Fmt.{decimal}
 use Rattle.std.proofs.Common.{map}
 use Rattle.rules_text.specs.Written.{symbol_word, window_words}
 use Rattle.rules_text.proofs.WrittenLemmas.{rule_joined}
-use Rattle.rules_text.proofs.write.rule_line.Goals as goal
+use Rattle.rules_text.proofs.write.append_rule.Goals as goal
 use Rattle.text_lines.specs.Names.{name_of}
 
 pub returns : goal.returns
