@@ -9,6 +9,9 @@ pub struct Handover {
     pub wanted: List<usize>,
     /// The basis with which the last hunt ended; an empty one where none was made.
     pub last: LastBasis,
+    /// Prices of the cells at which the first hunt may begin, in units of 2^-24; none where none are known. A
+    /// master takes them.
+    pub cells: List<i128>,
 }
 
 impl Handover {
@@ -17,6 +20,7 @@ impl Handover {
         Handover {
             wanted: List::new(alloc),
             last: LastBasis::new(alloc),
+            cells: List::new(alloc),
         }
     }
 }

@@ -9,10 +9,11 @@ use crate::{Bases, First, Handover, NodeEnd, Pool, Steering, solve_node_from};
 use cheapest_tree::Pricer;
 use fraction::Tally;
 use master_rows::Day;
-use roster_model::{Cut, Memory};
+use roster_model::{Cut, List, Memory};
 use scout::LastBasis;
 use search_watch::Watch;
 use std::alloc::Global;
+use std::mem;
 
 /// A master that finds prices which a near solution shows to be best, and solves a node's linear program in
 /// exact fractions where it finds none. It refuses hard nodes alone.
@@ -60,6 +61,18 @@ impl PlainMaster {
             Some(bases) => bases.take_last(alloc),
             None => LastBasis::new(alloc),
         }
+    }
+
+    /// Takes the prices of the cells that are handed over, where there are some.
+    fn take_cells(&mut self, alloc: Global, handover: &mut Handover)
+        ensures { self.new.refused ≡ self.old.refused }
+    {
+        if handover.cells.is_empty() {
+            return;
+        }
+        let mut bases = kept(alloc, self.bases.take());
+        bases.begin_at(mem::replace(&mut handover.cells, List::new(alloc)));
+        self.bases = Some(bases);
     }
 
     /// Solves a node's program with the bases that were kept, and keeps one more.
@@ -146,6 +159,7 @@ impl Master for PlainMaster {
         watch: &W,
     ) -> Result<NodeEnd, Memory> {
         let refused = self.refused;
+        self.take_cells(alloc, handover);
         let wanted = handover.wanted.as_slice();
         let end = self.solve_again(alloc, day, cuts, wanted, pricer, pool, watch)?;
         handover.last = self.take_last(alloc);

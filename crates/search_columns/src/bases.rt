@@ -47,6 +47,8 @@ pub struct Bases {
     steps: Limits,
     /// The basis of the last hunt; an empty one where none was made since it was taken.
     last: LastBasis,
+    /// Prices of rows at which a hunt without a basis may begin, in units of 2^-24; none where none are known.
+    first: List<i128>,
 }
 
 /// Whether the second list of cuts begins with the first.
@@ -105,7 +107,19 @@ impl Bases {
             turns: 0,
             steps,
             last: LastBasis::new(alloc),
+            first: List::new(alloc),
         }
+    }
+
+    /// Notes prices of the first rows at which a hunt without a basis may begin, in units of 2^-24. A row behind
+    /// these begins at the price 0.
+    pub fn begin_at(&mut self, prices: List<i128>) {
+        self.first = prices;
+    }
+
+    /// Returns the prices at which a hunt without a basis may begin; none where none are known.
+    pub(crate) fn first_prices(&self) -> &[i128] {
+        self.first.as_slice()
     }
 
     /// Returns how many steps a round of a hunt has.

@@ -121,19 +121,20 @@ fn start_from(alloc: Global, task: &NodeTask, pool: &Pool, basis: &Basis) -> Res
     })
 }
 
-/// Returns what a hunt begins with where no basis is known.
+/// Returns what a hunt begins with where no basis is known, at these prices.
 fn start_without(
     alloc: Global,
     rows: &NodeRows,
     pool: &Pool,
     wanted: &[usize],
+    prices: &[i128],
 ) -> Result<Start, Memory> {
     let most = rows.right().len().saturating_mul(LAST);
     let last = last_trees(alloc, pool.len(), most)?;
     Ok(Start {
         trees: joined(alloc, wanted, last.as_slice())?,
         keys: List::new(alloc),
-        prices: List::new(alloc),
+        prices: copied(alloc, prices)?,
         is_careful: false,
     })
 }
@@ -155,6 +156,9 @@ pub(crate) fn start_of(
         Some(basis) if basis.is_careful || !wanted.is_empty() => start_from(
             alloc, task, pool, basis,
         ),
-        _ => start_without(alloc, task.rows, pool, wanted),
+        _ => {
+            let prices = steering.bases.first_prices();
+            start_without(alloc, task.rows, pool, wanted, prices)
+        }
     }
 }
