@@ -9,6 +9,7 @@ use crate::desk::SearchDesk;
 use crate::first::is_wide;
 use candidate_rosters::{Roster, RosterDesk, limit, offer, roster_again};
 use master_rows::Day;
+use node_master::Handover;
 use roster_holes::{HoleSearch, HoleTask};
 use roster_model::{Instance, List, Memory, Prices, Shift};
 use search_watch::{Watch, Work};
@@ -155,6 +156,22 @@ pub(crate) fn offer_holes<W: Watch>(
     offered
 }
 
+/// Hands over the prices with which holes begin, for the first master.
+///
+/// # Errors
+///
+/// `Memory` where memory runs out; nothing is handed over then.
+fn hand_over(
+    alloc: Global,
+    holes: &Option<HoleSearch>,
+    handover: &mut Handover,
+) -> Result<(), Memory> {
+    if let Some(search) = holes {
+        handover.cells = search.cell_prices(alloc)?;
+    }
+    Ok(())
+}
+
 /// Offers a roster by holes before any node is priced.
 ///
 /// # Errors
@@ -177,5 +194,5 @@ pub(crate) fn offer_first_holes<W: Watch>(
     let offered = offer_found(alloc, day.instance, &found, &mut desk.rosters, best);
     drop(found);
     offered?;
-    Ok(())
+    hand_over(alloc, &desk.holes, &mut desk.handover)
 }

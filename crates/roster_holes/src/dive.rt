@@ -72,6 +72,8 @@ impl Fixed {
 /// What dives work on.
 #[derive(Drop)]
 pub(crate) struct Dive {
+    /// The arcs that dives begin with.
+    base: Part,
     part: Part,
     pub passer: Passer,
     pub volume: Volume,
@@ -92,9 +94,12 @@ impl Dive {
         let volume = Volume::new(alloc, site)?;
         let narrower = Narrower::new(alloc, site.graph)?;
         let widest = Widest::new(alloc, site.graph)?;
+        let mut base = Part::new(alloc);
+        base.copy_from(&site.graph.all)?;
         let mut part = Part::new(alloc);
         part.copy_from(&site.graph.all)?;
         Ok(Dive {
+            base,
             part,
             passer,
             volume,
@@ -104,9 +109,39 @@ impl Dive {
         })
     }
 
-    /// Begins with what a roster leaves, over the whole graph.
+    /// Makes all arcs those that dives begin with.
+    ///
+    /// # Errors
+    ///
+    /// `Memory` where memory runs out.
+    pub(crate) fn widen(&mut self, site: Site) -> Result<(), Memory> {
+        self.base.copy_from(&site.graph.all)
+    }
+
+    /// Leaves out of the arcs that dives begin with those that no roster has which costs less than this, by the
+    /// prices with which dives begin. Where that leaves none they stay.
+    ///
+    /// # Errors
+    ///
+    /// `Memory` where memory runs out.
+    pub(crate) fn narrow_to(&mut self, alloc: Global, site: Site, cost: u64) -> Result<(), Memory> {
+        let empty = HoleRoster::new(alloc, site.instance)?;
+        self.start(site, &empty)?;
+        let limit = of_cost(cost) - 1.0 + NEAR;
+        let gap = limit - self.volume.bound;
+        let teams = self.volume.teams.as_slice();
+        if self
+            .narrower
+            .narrow(site.graph, &mut self.part, teams, gap, &mut self.passer)
+        {
+            self.base.copy_from(&self.part)?;
+        }
+        Ok(())
+    }
+
+    /// Begins with what a roster leaves, over the arcs that dives begin with.
     fn start(&mut self, site: Site, roster: &HoleRoster) -> Result<(), Memory> {
-        self.part.copy_from(&site.graph.all)?;
+        self.part.copy_from(&self.base)?;
         self.volume
             .start(site, roster, &self.part, &mut self.passer)
     }
@@ -300,6 +335,6 @@ impl Dive {
         first: usize,
         roster: &mut HoleRoster,
     ) -> Result<(), Memory> {
-        exchange(alloc, site, first, &mut self.passer, roster)
+        exchange(alloc, site, first, &self.base, &mut self.passer, roster)
     }
 }

@@ -1,6 +1,7 @@
 use crate::floats::{NEVER, NONE};
 use crate::graph::Site;
-use crate::passing::Passer;
+use crate::part::Part;
+use crate::passing::{Passer, Way};
 use crate::roster::HoleRoster;
 use crate::tree::HoleTree;
 use roster_model::Memory;
@@ -19,16 +20,16 @@ fn may_lose(site: Site, team: usize, roster: &HoleRoster) -> bool {
 fn cheapest_team(
     site: Site,
     old: usize,
+    part: &Part,
     passer: &mut Passer,
     roster: &HoleRoster,
 ) -> Option<usize> {
     let may_change = may_lose(site, old, roster);
-    let all = &site.graph.all;
     let mut least = NONE;
     let mut chosen = old;
     for (place, team) in site.graph.teams.as_slice().iter().enumerate() {
         if place == old || (may_change && roster.heads_of(place) < team.most) {
-            let sum = passer.lead(site.graph, all, place);
+            let sum = passer.lead(site.graph, part, place);
             if sum < least {
                 least = sum;
                 chosen = place;
@@ -43,17 +44,18 @@ fn other_tree(
     alloc: Global,
     site: Site,
     old: usize,
+    part: &Part,
     passer: &mut Passer,
     roster: &HoleRoster,
 ) -> Result<Option<HoleTree>, Memory> {
     roster.set_gains(site.instance, passer.gains.as_mut_slice());
-    passer.pass(site.graph, &site.graph.all);
-    let Some(team) = cheapest_team(site, old, passer, roster) else {
+    passer.pass(site.graph, part);
+    let Some(team) = cheapest_team(site, old, part, passer, roster) else {
         return Ok(None);
     };
-    let _sum = passer.lead(site.graph, &site.graph.all, team);
+    let _sum = passer.lead(site.graph, part, team);
     let mut tree = HoleTree::new(alloc);
-    passer.write(site.graph, &site.graph.all, &mut tree)?;
+    passer.write(site.graph, part, Way::Sums, &mut tree)?;
     Ok(Some(tree))
 }
 
@@ -62,13 +64,14 @@ fn exchange_one(
     alloc: Global,
     site: Site,
     place: usize,
+    part: &Part,
     passer: &mut Passer,
     roster: &mut HoleRoster,
 ) -> Result<(), Memory> {
     let Some(old) = roster.take(place) else {
         return Ok(());
     };
-    match other_tree(alloc, site, old.team, passer, roster)? {
+    match other_tree(alloc, site, old.team, part, passer, roster)? {
         Some(tree) => {
             drop(old);
             roster.put(place, tree)
@@ -86,11 +89,12 @@ pub(crate) fn exchange(
     alloc: Global,
     site: Site,
     first: usize,
+    part: &Part,
     passer: &mut Passer,
     roster: &mut HoleRoster,
 ) -> Result<(), Memory> {
     for place in first..roster.trees.len() {
-        exchange_one(alloc, site, place, passer, roster)?;
+        exchange_one(alloc, site, place, part, passer, roster)?;
     }
     Ok(())
 }

@@ -1,7 +1,7 @@
 use crate::floats::{NEVER, NONE};
 use crate::graph::Site;
 use crate::part::Part;
-use crate::passing::Passer;
+use crate::passing::{Passer, Way};
 use crate::roster::HoleRoster;
 use crate::tree::HoleTree;
 use roster_model::Memory;
@@ -68,7 +68,7 @@ fn grow_one(
     }
     let _sum = passer.lead(site.graph, part, choice.team);
     let mut tree = HoleTree::new(alloc);
-    passer.write(site.graph, part, &mut tree)?;
+    passer.write(site.graph, part, Way::Sums, &mut tree)?;
     roster.push(tree)?;
     Ok(true)
 }

@@ -8,14 +8,19 @@ use roster_model::Memory;
 use search_watch::Watch;
 use std::alloc::Global;
 
-/// After so many holes in a row without gain no further one is opened at a node.
-pub(crate) const PATIENCE: u32 = 10;
-
-/// The same before the first master and at the first node.
-pub(crate) const FIRST_PATIENCE: u32 = 40;
-
 /// How many passes are taken after trees of a hole were fixed.
 const STEP: u32 = 100;
+
+/// At most so many holes are opened one after another.
+const MOST_HOLES: u32 = 100_000;
+
+/// One tree in so many goes where a roster is shaken, and at least so many.
+const SHAKEN: usize = 3;
+
+const FEWEST_SHAKEN: usize = 4;
+
+/// A shaken roster may cost one in so many more.
+const DEARER: u64 = 64;
 
 /// What a hole gains.
 #[derive(Clone, Copy, Drop)]
@@ -40,14 +45,14 @@ fn gain_of(before: u64, after: u64, known: u64) -> Gain {
     }
 }
 
-/// How many passes holes may take, by the passes that were taken since the search began.
+/// How much work holes may take, by that which was taken since the search began.
 #[derive(Clone, Copy, Drop)]
 pub(crate) struct Budget {
-    /// How many were taken when the holes began.
+    /// How much was taken when the holes began.
     begun: u64,
-    /// How many they may take where they gain nothing.
+    /// How much they may take where they gain nothing.
     own: u64,
-    /// How many they may take now.
+    /// How much they may take now.
     allowed: u64,
     /// How many further holes in a row may have no gain.
     patience: u32,
@@ -58,8 +63,8 @@ pub(crate) struct Budget {
 }
 
 impl Budget {
-    /// Returns a budget of so many passes, after so many were taken, and of so many holes in a row without
-    /// gain, where the best known roster costs so much.
+    /// Returns a budget of so much work, after so much was taken, and of so many holes in a row without gain,
+    /// where the best known roster costs so much.
     pub(crate) fn new(begun: u64, own: u64, patience: u32, known: u64) -> Budget {
         Budget {
             begun,
@@ -71,14 +76,25 @@ impl Budget {
         }
     }
 
-    /// Says whether it is used up, when so many passes were taken.
-    fn is_spent(&self, count: u64) -> bool {
-        self.patience == 0 || count.saturating_sub(self.begun) >= self.allowed
+    /// Gives the patience back, where a roster that costs so much is known.
+    pub(crate) fn begin_anew(&mut self, cost: u64) {
+        self.patience = self.fresh;
+        self.known = self.known.min(cost);
     }
 
-    /// Notes a hole after which so many passes were taken: one with gain gives the patience back, and one
-    /// that makes the roster better than any known one allows further passes.
-    fn note(&mut self, count: u64, gain: Gain) {
+    /// Says whether all work is taken, when so much was.
+    pub(crate) fn is_used(&self, work: u64) -> bool {
+        work.saturating_sub(self.begun) >= self.allowed
+    }
+
+    /// Says whether no further hole is opened, when so much work was taken.
+    fn is_spent(&self, work: u64) -> bool {
+        self.patience == 0 || self.is_used(work)
+    }
+
+    /// Notes a hole after which so much work was taken: one with gain gives the patience back, and one that
+    /// makes the roster better than any known one allows further work.
+    fn note(&mut self, work: u64, gain: Gain) {
         match gain {
             Gain::None => {
                 self.patience = self.patience.saturating_sub(1);
@@ -90,7 +106,7 @@ impl Budget {
             }
             Gain::Best => self.patience = self.fresh,
         }
-        let taken = count.saturating_sub(self.begun);
+        let taken = work.saturating_sub(self.begun);
         let further = (self.own / 2).max(taken / 2);
         let most = self.own.saturating_mul(3);
         self.allowed = taken.saturating_add(further).min(most).max(self.allowed);
@@ -208,30 +224,30 @@ fn open_one<W: Watch>(
     Ok(filled)
 }
 
-/// Opens holes in a roster until it costs no more than the goal, or the budget is used up. Where the watch is
-/// over it opens no further one.
+/// Opens holes in a roster until it costs no more than the goal, the budget is used up, or too many in a row
+/// gain nothing. Where the watch is over it opens no further one.
 ///
 /// # Errors
 ///
 /// `Memory` where memory runs out.
-pub(crate) fn open_all<W: Watch>(
+pub(crate) fn open_round<W: Watch>(
     alloc: Global,
     site: Site,
     goal: u64,
-    budget: Budget,
+    budget: &mut Budget,
     tools: &mut Tools,
     roster: &mut HoleRoster,
     watch: &W,
 ) -> Result<(), Memory> {
-    let mut budget = budget;
     let mut sizes = Sizes {
         small: HoleSize::small(),
         great: HoleSize::great(),
     };
     let mut cost = roster.cost(site.instance);
     tools.dive.step = STEP;
-    for _ in 0..budget.own.saturating_mul(3) {
-        if watch.is_over() || cost <= goal || budget.is_spent(tools.dive.passer.count) {
+    tools.dive.narrow_to(alloc, site, cost)?;
+    for _ in 0..MOST_HOLES {
+        if watch.is_over() || cost <= goal || budget.is_spent(tools.dive.passer.work) {
             break;
         }
         if roster.trees.is_empty() {
@@ -242,8 +258,59 @@ pub(crate) fn open_all<W: Watch>(
         let filled = open_one(alloc, site, cost, count, tools, roster, watch)?;
         sizes.learn(is_great, cost, filled);
         let gain = gain_of(cost, filled.cost, budget.known);
-        budget.note(tools.dive.passer.count, gain);
-        cost = cost.min(filled.cost);
+        budget.note(tools.dive.passer.work, gain);
+        if filled.cost < cost {
+            cost = filled.cost;
+            tools.dive.narrow_to(alloc, site, cost)?;
+        }
+    }
+    Ok(())
+}
+
+/// Takes a third of the trees out of a roster that costs so much, and solves what they leave, whatever it
+/// costs up to one in 64 more. Says whether it did.
+fn shake<W: Watch>(
+    alloc: Global,
+    site: Site,
+    cost: u64,
+    tools: &mut Tools,
+    roster: &mut HoleRoster,
+    watch: &W,
+) -> Result<bool, Memory> {
+    let count = (roster.trees.len() / SHAKEN).max(FEWEST_SHAKEN);
+    tools.gone.clear();
+    let prices = tools.dive.volume.starts.as_slice();
+    let gone = &mut tools.gone;
+    tools
+        .ranking
+        .take_out(site.instance, prices, count, roster, gone)?;
+    let most = cost.saturating_add(cost / DEARER);
+    let filled = fill(alloc, site, most, &mut tools.dive, roster, watch)?;
+    Ok(filled.end == HoleEnd::Whole && filled.cost < u64::MAX)
+}
+
+/// Opens holes in a roster after it was shaken. It becomes the roster where it costs no more than before.
+///
+/// # Errors
+///
+/// `Memory` where memory runs out.
+pub(crate) fn open_shaken<W: Watch>(
+    alloc: Global,
+    site: Site,
+    goal: u64,
+    budget: &mut Budget,
+    tools: &mut Tools,
+    roster: &mut HoleRoster,
+    watch: &W,
+) -> Result<(), Memory> {
+    let cost = roster.cost(site.instance);
+    let mut other = roster.copied(alloc)?;
+    budget.begin_anew(cost);
+    if shake(alloc, site, cost, tools, &mut other, watch)? {
+        open_round(alloc, site, goal, budget, tools, &mut other, watch)?;
+        if other.is_staffed(site.graph) && other.cost(site.instance) <= cost {
+            *roster = other;
+        }
     }
     Ok(())
 }

@@ -1,4 +1,4 @@
-use crate::floats::{NONE, at, cost_of, set_at};
+use crate::floats::{NONE, at, cost_of, lesser, set_at};
 use crate::graph::{HoleGraph, Letter, NOWHERE};
 use crate::part::{HoleArc, Part};
 use crate::tree::HoleTree;
@@ -15,19 +15,28 @@ pub(crate) struct Passer {
     pub gains: Vec<f64>,
     /// The least sum of a tree at each slot.
     pub sums: Vec<f64>,
-    /// The place of the arc of each node that its written tree has.
+    /// The place of the arc of each node that a tree has which is written by them.
     pub choices: Vec<u32>,
+    /// The place of the row of each node in the part that was passed over last.
+    rows: Vec<u32>,
+    /// How many rows that part has.
+    passed: usize,
     stack: Vec<u32>,
-    /// How many passes were taken.
-    pub count: u64,
+    /// How many arcs and cells were passed over.
+    pub work: u64,
 }
 
-/// A least sum, and the place of the arc that has it.
-#[derive(Clone, Copy, Drop)]
-struct Least {
-    sum: f64,
-    place: u32,
+/// By what the arcs of a tree are chosen.
+#[derive(Clone, Copy, PartialEq, Eq, Drop)]
+pub(crate) enum Way {
+    /// By the sums of the last pass.
+    Sums,
+    /// As the choices say.
+    Choices,
 }
+
+/// A cell counts as so many arcs.
+const CELL_WORK: u64 = 8;
 
 /// Sets the place that a node chooses.
 pub(crate) fn choose(choices: &mut [u32], node: u32, place: u32) {
@@ -41,29 +50,29 @@ fn sum_at(sums: &[f64], arc: &HoleArc) -> f64 {
     at(sums, arc.first) + at(sums, arc.rest) + arc.cost
 }
 
-/// Returns the least sum at these arcs, which stand from a place on.
-fn least_of(arcs: &[HoleArc], begin: u32, sums: &[f64]) -> Least {
-    let mut least = Least {
-        sum: NONE,
-        place: begin,
-    };
-    let mut place = begin;
+/// Returns the least sum at these arcs.
+fn least_of(arcs: &[HoleArc], sums: &[f64]) -> f64 {
+    let mut least = NONE;
     for arc in arcs {
-        let sum = sum_at(sums, arc);
-        if sum < least.sum {
-            least = Least { sum, place };
-        }
-        place = place.saturating_add(1);
+        least = lesser(least, sum_at(sums, arc));
     }
     least
 }
 
-/// Sets the least sums of the nodes of a part, and what they choose.
-fn pass_rows(part: &Part, sums: &mut [f64], choices: &mut [u32]) {
+/// Sets the least sums of the nodes of a part.
+fn pass_rows(part: &Part, sums: &mut [f64]) {
     for row in part.rows.as_slice() {
-        let least = least_of(part.arcs_of(row), row.begin, sums);
-        set_at(sums, row.node, least.sum);
-        choose(choices, row.node, least.place);
+        let least = least_of(part.arcs_of(row), sums);
+        set_at(sums, row.node, least);
+    }
+}
+
+/// Sets the places of the rows of the nodes of a part.
+fn place_rows(part: &Part, rows: &mut [u32]) {
+    let mut place = 0u32;
+    for row in part.rows.as_slice() {
+        choose(rows, row.node, place);
+        place = place.saturating_add(1);
     }
 }
 
@@ -102,26 +111,66 @@ impl Passer {
             gains: vec![in alloc; 0.0; instance.cells.len()]?,
             sums: vec![in alloc; 0.0; graph.slots()]?,
             choices: vec![in alloc; 0u32; graph.nodes as usize]?,
+            rows: vec![in alloc; 0u32; graph.nodes as usize]?,
+            passed: 0,
             stack: Vec::new(alloc),
-            count: 0,
+            work: 0,
         })
+    }
+
+    /// Gets ready for another part: its nodes have rows, and all others no trees.
+    fn turn_to(&mut self, graph: &HoleGraph, part: &Part) {
+        for sum in self
+            .sums
+            .as_mut_slice()
+            .iter_mut()
+            .take(graph.nodes as usize)
+        {
+            *sum = NONE;
+        }
+        set_at(self.sums.as_mut_slice(), graph.nodes, 0.0);
+        place_rows(part, self.rows.as_mut_slice());
+        self.passed = part.rows.len();
+    }
+
+    /// Notes the work of a pass over a part.
+    fn note_work(&mut self, part: &Part) {
+        let cells = (self.gains.len() as u64).saturating_mul(CELL_WORK);
+        let work = (part.arcs.len() as u64).saturating_add(cells);
+        self.work = self.work.saturating_add(work);
     }
 
     /// Passes over a part, once the letters have their sums.
     fn run(&mut self, graph: &HoleGraph, part: &Part) {
-        self.count = self.count.saturating_add(1);
-        set_at(self.sums.as_mut_slice(), graph.nodes, 0.0);
-        if part.rows.len() < graph.nodes as usize {
-            for sum in self
-                .sums
-                .as_mut_slice()
-                .iter_mut()
-                .take(graph.nodes as usize)
-            {
-                *sum = NONE;
-            }
+        self.note_work(part);
+        if part.rows.len() != self.passed {
+            self.turn_to(graph, part);
         }
-        pass_rows(part, self.sums.as_mut_slice(), self.choices.as_mut_slice());
+        pass_rows(part, self.sums.as_mut_slice());
+    }
+
+    /// Returns the place of the arc of a node that has its least sum.
+    fn least_place(&self, part: &Part, node: u32) -> Option<u32> {
+        let number = self.rows.as_slice().get(node as usize)?;
+        let row = part.rows.as_slice().get(*number as usize)?;
+        let least = at(self.sums.as_slice(), node);
+        let mut place = row.begin;
+        for arc in part.arcs_of(row) {
+            if sum_at(self.sums.as_slice(), arc) <= least {
+                return Some(place);
+            }
+            place = place.saturating_add(1);
+        }
+        None
+    }
+
+    /// Returns the place of the arc of a node that a tree has.
+    fn place_of(&self, graph: &HoleGraph, part: &Part, node: u32, way: Way) -> Option<u32> {
+        if way == Way::Choices || graph.is_grouped && node == graph.root {
+            self.choices.as_slice().get(node as usize).copied()
+        } else {
+            self.least_place(part, node)
+        }
     }
 
     /// Passes over a part of a graph at the gains: each node has the least sum of its trees then.
@@ -168,10 +217,10 @@ impl Passer {
         graph: &HoleGraph,
         part: &Part,
         node: u32,
+        way: Way,
         tree: &mut HoleTree,
     ) -> Result<f64, Memory> {
-        let place = self.choices.as_slice().get(node as usize).copied();
-        let place = place.unwrap_or(u32::MAX);
+        let place = self.place_of(graph, part, node, way).unwrap_or(u32::MAX);
         let Some(arc) = part.arcs.as_slice().get(place as usize).copied() else {
             return Ok(0.0);
         };
@@ -184,7 +233,7 @@ impl Passer {
         Ok(arc.cost)
     }
 
-    /// Writes the tree that the nodes choose from the root on.
+    /// Writes the tree that is chosen from the root on.
     ///
     /// # Errors
     ///
@@ -193,6 +242,7 @@ impl Passer {
         &mut self,
         graph: &HoleGraph,
         part: &Part,
+        way: Way,
         tree: &mut HoleTree,
     ) -> Result<(), Memory> {
         tree.blank(graph.periods)?;
@@ -204,7 +254,7 @@ impl Passer {
                 break;
             };
             if slot < graph.nodes {
-                cost += self.go_down(graph, part, slot, tree)?;
+                cost += self.go_down(graph, part, slot, way, tree)?;
             } else {
                 spell(graph, slot, tree)?;
             }

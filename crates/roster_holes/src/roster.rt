@@ -49,6 +49,20 @@ impl HoleRoster {
         })
     }
 
+    /// Returns a copy.
+    ///
+    /// # Errors
+    ///
+    /// `Memory` where memory runs out.
+    pub(crate) fn copied(&self, alloc: Global) -> Result<HoleRoster, Memory> {
+        let mut trees = Vec::new(alloc);
+        for tree in self.trees.as_slice() {
+            trees.push(tree.copied(alloc)?)?;
+        }
+        let counts = Vec::from_slice(alloc, self.counts.as_slice())?;
+        Ok(HoleRoster { trees, counts })
+    }
+
     /// Adds a tree.
     ///
     /// # Errors

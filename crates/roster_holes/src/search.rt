@@ -5,7 +5,7 @@ use crate::dive::{Dive, HoleEnd};
 use crate::drawing::Draws;
 use crate::floats::{cost_of, whole};
 use crate::graph::{HoleGraph, Site};
-use crate::holes::{Budget, FIRST_PATIENCE, PATIENCE, Tools, open_all};
+use crate::holes::{Budget, Tools, open_round, open_shaken};
 use crate::ranking::Ranking;
 use crate::rests::Rests;
 use crate::roster::HoleRoster;
@@ -24,15 +24,35 @@ const PRICE_CHUNKS: u32 = 67;
 /// The turn by which holes before the first master are drawn.
 const FIRST_DRAWS: u32 = 1_000_000;
 
-/// How many passes holes may take before the first master, at the first node, and at others.
-const PASSES_BEFORE: u64 = 8_000;
+/// How much work holes may take before the first master, at the first node, and at others, in passes over the
+/// whole graph.
+const PASSES_BEFORE: u64 = 6_000;
 
-const PASSES_FIRST: u64 = 40_000;
+const PASSES_FIRST: u64 = 30_000;
 
-const PASSES_LATER: u64 = 10_000;
+const PASSES_LATER: u64 = 3_000;
 
-/// How many dives from nothing are made at the first node.
+/// After so many holes in a row without gain no further one is opened in a roster at first, and at later nodes.
+const FIRST_PATIENCE: u32 = 40;
+
+const PATIENCE: u32 = 20;
+
+/// How many dives from nothing are made at the first node before holes are opened.
 const DIVES: u32 = 3;
+
+/// How often holes begin anew at the first node, at most.
+const MOST_ROUNDS: u32 = 1_000;
+
+/// A further dive from nothing takes so many passes after trees were fixed, and by chance up to so many more.
+const LEAST_STEP: u32 = 60;
+
+const FURTHER_STEP: u32 = 200;
+
+/// A known roster is near where what it costs above the bound is less than one in so many.
+const NEAR_PART: u64 = 256;
+
+/// The first dive looks for a roster that costs one in so many more than the first prices show, at most.
+const HOPED_PART: u64 = 64;
 
 /// By so much a bound in floats may be too great.
 const SLACK: f64 = 1.0e-3;
@@ -95,6 +115,11 @@ fn is_better(site: Site, roster: &HoleRoster, other: &HoleRoster) -> bool {
     !other.is_staffed(site.graph) || roster.cost(site.instance) < other.cost(site.instance)
 }
 
+/// Says whether a roster costs no more than a goal.
+fn reaches(site: Site, roster: &HoleRoster, goal: u64) -> bool {
+    roster.is_staffed(site.graph) && roster.cost(site.instance) <= goal
+}
+
 /// Makes the better one of a roster and of a dive from nothing the roster.
 fn dive_afresh<W: Watch>(
     alloc: Global,
@@ -122,8 +147,7 @@ fn dive_from_nothing<W: Watch>(
     watch: &W,
 ) -> Result<(), Memory> {
     for number in 0..dives {
-        let is_done = roster.is_staffed(site.graph) && roster.cost(site.instance) <= goal;
-        if watch.is_over() || is_done {
+        if watch.is_over() || reaches(site, roster, goal) {
             break;
         }
         dive_afresh(alloc, site, step_of(number), dive, roster, watch)?;
@@ -148,11 +172,13 @@ fn set_starts(prices: &Prices, starts: &mut [f64]) {
     }
 }
 
-/// Returns how many passes holes may take at a node.
+/// Returns the work of so many passes over the whole graph.
+fn work_of(site: Site, passes: u64) -> u64 {
+    (site.graph.all.arcs.len() as u64).saturating_mul(passes)
+}
+
+/// Returns how many passes holes may take at a later node.
 fn passes_at(turn: u32) -> u64 {
-    if turn == 0 {
-        return PASSES_FIRST;
-    }
     let square = u64::from(turn).saturating_mul(u64::from(turn));
     (PASSES_LATER * 8)
         .checked_div(square.saturating_add(8))
@@ -190,6 +216,28 @@ fn found_shifts(
     sound_shifts(alloc, instance, graph, roster)
 }
 
+/// Makes the better one of a roster and of a dive from nothing the roster, at prices that were found: over the
+/// arcs of rosters that cost little more than the goal, or where that leads to none, over all.
+fn dive_first<W: Watch>(
+    alloc: Global,
+    site: Site,
+    cost: u64,
+    goal: u64,
+    dive: &mut Dive,
+    roster: &mut HoleRoster,
+    watch: &W,
+) -> Result<(), Memory> {
+    let before = roster.cost(site.instance);
+    let hoped = goal.saturating_add(goal / HOPED_PART);
+    dive.narrow_to(alloc, site, cost.min(hoped))?;
+    dive_from_nothing(alloc, site, 1, goal, dive, roster, watch)?;
+    dive.widen(site)?;
+    if roster.cost(site.instance) >= before {
+        dive_from_nothing(alloc, site, 1, goal, dive, roster, watch)?;
+    }
+    Ok(())
+}
+
 /// Returns the best roster from prices that are looked for first, a dive from nothing, and holes.
 fn search_first<W: Watch>(
     alloc: Global,
@@ -200,24 +248,123 @@ fn search_first<W: Watch>(
 ) -> Result<HoleRoster, Memory> {
     let empty = HoleRoster::new(alloc, site.instance)?;
     let dive = &mut tools.dive;
+    dive.widen(site)?;
     let bound = dive.find_prices(site, &empty, task.cost, PRICE_CHUNKS, watch)?;
     drop(empty);
     let goal = cost_of(bound - SLACK).saturating_add(1).max(task.bound);
-    let mut roster = roster_of(alloc, site, task.shifts, &mut tools.dive)?;
-    dive_from_nothing(alloc, site, 1, goal, &mut tools.dive, &mut roster, watch)?;
+    let mut roster = roster_of(alloc, site, task.shifts, dive)?;
+    dive_first(alloc, site, task.cost, goal, dive, &mut roster, watch)?;
     tools.ranking.draws = Draws::of_turn(FIRST_DRAWS);
-    let budget = Budget::new(
-        tools.dive.passer.count,
-        PASSES_BEFORE,
-        FIRST_PATIENCE,
-        task.cost,
-    );
-    open_all(alloc, site, goal, budget, tools, &mut roster, watch)?;
+    let work = work_of(site, PASSES_BEFORE);
+    let mut budget = Budget::new(tools.dive.passer.work, work, FIRST_PATIENCE, task.cost);
+    open_round(alloc, site, goal, &mut budget, tools, &mut roster, watch)?;
     Ok(roster)
 }
 
-/// Returns the best roster from holes in that of the task; at the first node, and where it has none, from
-/// dives from nothing.
+/// Makes all arcs those that dives from nothing begin with, or where the known roster is near, those of rosters
+/// that cost less.
+fn turn_to_first(
+    alloc: Global,
+    site: Site,
+    task: &HoleTask,
+    dive: &mut Dive,
+) -> Result<(), Memory> {
+    dive.widen(site)?;
+    if task.cost.saturating_sub(task.bound) < task.cost / NEAR_PART {
+        dive.narrow_to(alloc, site, task.cost)?;
+    }
+    Ok(())
+}
+
+/// Opens holes in a roster that a further dive from nothing leads to. It becomes the roster where it is better.
+fn open_afresh<W: Watch>(
+    alloc: Global,
+    site: Site,
+    task: &HoleTask,
+    budget: &mut Budget,
+    tools: &mut Tools,
+    roster: &mut HoleRoster,
+    watch: &W,
+) -> Result<(), Memory> {
+    turn_to_first(alloc, site, task, &mut tools.dive)?;
+    let step = LEAST_STEP.saturating_add(tools.ranking.draws.below(FURTHER_STEP));
+    let mut other = fresh_roster(alloc, site, step, &mut tools.dive, watch)?;
+    if other.is_staffed(site.graph) {
+        open_round(alloc, site, task.bound, budget, tools, &mut other, watch)?;
+    }
+    if is_better(site, &other, roster) {
+        *roster = other;
+    }
+    Ok(())
+}
+
+/// Begins anew until a roster costs no more than the bound, or the budget is used up: in turn with a dive from
+/// nothing, and with the best roster once it was shaken.
+fn open_again<W: Watch>(
+    alloc: Global,
+    site: Site,
+    task: &HoleTask,
+    budget: &mut Budget,
+    tools: &mut Tools,
+    roster: &mut HoleRoster,
+    watch: &W,
+) -> Result<(), Memory> {
+    for round in 0..MOST_ROUNDS {
+        let is_done = reaches(site, roster, task.bound) || budget.is_used(tools.dive.passer.work);
+        if watch.is_over() || is_done {
+            break;
+        }
+        budget.begin_anew(roster.cost(site.instance));
+        if round % 2 == 0 {
+            open_afresh(alloc, site, task, budget, tools, roster, watch)?;
+        } else {
+            open_shaken(alloc, site, task.bound, budget, tools, roster, watch)?;
+        }
+    }
+    Ok(())
+}
+
+/// Returns the best roster at the first node, or where none is known: from dives from nothing, and holes in what
+/// they lead to.
+fn search_afresh<W: Watch>(
+    alloc: Global,
+    site: Site,
+    task: &HoleTask,
+    tools: &mut Tools,
+    watch: &W,
+) -> Result<HoleRoster, Memory> {
+    let work = work_of(site, PASSES_FIRST);
+    let mut budget = Budget::new(tools.dive.passer.work, work, FIRST_PATIENCE, task.cost);
+    let mut roster = HoleRoster::new(alloc, site.instance)?;
+    let dive = &mut tools.dive;
+    let goal = task.bound;
+    turn_to_first(alloc, site, task, dive)?;
+    dive_from_nothing(alloc, site, DIVES, goal, dive, &mut roster, watch)?;
+    tools.ranking.draws = Draws::of_turn(task.turn);
+    open_round(alloc, site, goal, &mut budget, tools, &mut roster, watch)?;
+    open_again(alloc, site, task, &mut budget, tools, &mut roster, watch)?;
+    Ok(roster)
+}
+
+/// Returns the best roster from holes in that of the task.
+fn search_below<W: Watch>(
+    alloc: Global,
+    site: Site,
+    task: &HoleTask,
+    tools: &mut Tools,
+    watch: &W,
+) -> Result<HoleRoster, Memory> {
+    let work = work_of(site, passes_at(task.turn));
+    let mut budget = Budget::new(tools.dive.passer.work, work, PATIENCE, task.cost);
+    tools.dive.widen(site)?;
+    let mut roster = roster_of(alloc, site, task.shifts, &mut tools.dive)?;
+    tools.ranking.draws = Draws::of_turn(task.turn);
+    let goal = task.bound;
+    open_round(alloc, site, goal, &mut budget, tools, &mut roster, watch)?;
+    Ok(roster)
+}
+
+/// Returns the best roster at a node.
 fn search_at<W: Watch>(
     alloc: Global,
     site: Site,
@@ -225,26 +372,11 @@ fn search_at<W: Watch>(
     tools: &mut Tools,
     watch: &W,
 ) -> Result<HoleRoster, Memory> {
-    let is_first = task.turn == 0 || task.shifts.is_empty();
-    let patience = if task.turn == 0 {
-        FIRST_PATIENCE
+    if task.turn == 0 || task.shifts.is_empty() {
+        search_afresh(alloc, site, task, tools, watch)
     } else {
-        PATIENCE
-    };
-    let budget = Budget::new(
-        tools.dive.passer.count,
-        passes_at(task.turn),
-        patience,
-        task.cost,
-    );
-    let shifts: &[Shift] = if is_first { &[] } else { task.shifts };
-    let dives = if is_first { DIVES } else { 0 };
-    let mut roster = roster_of(alloc, site, shifts, &mut tools.dive)?;
-    let dive = &mut tools.dive;
-    dive_from_nothing(alloc, site, dives, task.bound, dive, &mut roster, watch)?;
-    tools.ranking.draws = Draws::of_turn(task.turn);
-    open_all(alloc, site, task.bound, budget, tools, &mut roster, watch)?;
-    Ok(roster)
+        search_below(alloc, site, task, tools, watch)
+    }
 }
 
 /// Returns a price in units of 2^-24.
@@ -299,9 +431,9 @@ impl HoleSearch {
     }
 
     /// Looks for a roster at a node, at its prices, or at those at hand where it has none: at the first node
-    /// from nothing, and else by holes in the task's roster. Returns at most 64 sound shifts at the price 0, where they seem to cost less than the
-    /// task's cost. Where the watch is over no further hole is opened. After three nodes without gain holes
-    /// rest for four turns.
+    /// from nothing, again and again, and else by holes in the task's roster. Returns at most 64 sound shifts at
+    /// the price 0, where they seem to cost less than the task's cost. Where the watch is over no further hole is
+    /// opened. After three nodes without gain holes rest for four turns.
     ///
     /// # Errors
     ///

@@ -6,7 +6,7 @@ use crate::floats::{NEVER, greater, lesser, of_count};
 use crate::flow::Flow;
 use crate::graph::{HoleGraph, HoleTeam, Site};
 use crate::part::Part;
-use crate::passing::Passer;
+use crate::passing::{Passer, Way};
 use crate::roster::HoleRoster;
 use crate::tree::HoleTree;
 use roster_model::Memory;
@@ -93,7 +93,7 @@ impl Asked {
         if heads == 0 || sum >= NEVER {
             self.tree.clear();
         } else {
-            passer.write(graph, part, &mut self.tree)?;
+            passer.write(graph, part, Way::Sums, &mut self.tree)?;
         }
         Ok(if heads == 0 { 0.0 } else { sum * self.heads })
     }

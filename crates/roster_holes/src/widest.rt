@@ -2,7 +2,7 @@ use crate::floats::{NEAR, at, lesser, set_at};
 use crate::flow::Flow;
 use crate::graph::HoleGraph;
 use crate::part::{HoleArc, Part};
-use crate::passing::{Passer, choose};
+use crate::passing::{Passer, Way, choose};
 use crate::tree::HoleTree;
 use crate::volume::Volume;
 use roster_model::Memory;
@@ -124,7 +124,7 @@ impl Widest {
         self.set_widths(graph, part, volume, passer.choices.as_mut_slice());
         let width = at(self.widths.as_slice(), graph.root);
         if width > 0.0 {
-            passer.write(graph, part, &mut self.tree)?;
+            passer.write(graph, part, Way::Choices, &mut self.tree)?;
         }
         Ok(width)
     }

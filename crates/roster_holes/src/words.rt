@@ -1,6 +1,6 @@
 use crate::floats::NEVER;
 use crate::graph::HoleGraph;
-use crate::passing::Passer;
+use crate::passing::{Passer, Way};
 use crate::roster::HoleRoster;
 use crate::tree::HoleTree;
 use roster_model::{Memory, Shift};
@@ -20,7 +20,7 @@ fn read_word(
         return Ok(false);
     }
     let mut tree = HoleTree::new(alloc);
-    passer.write(graph, &graph.all, &mut tree)?;
+    passer.write(graph, &graph.all, Way::Sums, &mut tree)?;
     roster.push(tree)?;
     Ok(true)
 }
