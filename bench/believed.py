@@ -44,6 +44,10 @@ PARTS = {
         ("answers.specs.TextCommands", "TextCommand"), ("text_commands.specs.what_if.Value", "Valuation"), READER]),
     "rest": ("`rest`, with each cause", [
         ("answers.specs.TextCommands", "TextCommand"), ("text_commands.specs.what_if.Rest", "Resting"), READER]),
+    "relax-rules": ("`relax-rules`", [RULES, ("text_commands.specs.relax.Answers", "RelaxedRules"), READER]),
+    "relax-demand": ("`relax-demand`", [
+        ("text_commands.specs.relax.DayCommands", "DayCommand"), ("text_commands.specs.relax.Answers", "RelaxedDemand"),
+        READER]),
     "reuse": ("`reuse`", [CERT, ("search_commands.specs.Reuse", "Reusing"), READER]),
     "found": ("`solve`, without how it searched", [SOLVE, WRITER]),
     "solve": ("`solve`", [SOLVE, WRITER]),

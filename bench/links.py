@@ -49,7 +49,7 @@ def wrong_names(page):
 
 
 def commands():
-    return re.findall(r'bytes_eq command \(codes "(\w+)"\)', FORMS.read_text())
+    return re.findall(r'bytes_eq command \(codes "([\w-]+)"\)', FORMS.read_text())
 
 
 def scripts():

@@ -15,10 +15,12 @@ _roster() {
     local current=${COMP_WORDS[COMP_CWORD]}
     COMPREPLY=()
     case $COMP_CWORD:${COMP_WORDS[1]} in
-        1:*) _roster_words "solve curve check value rest reuse explain rank next fits make" "$current" ;;
+        1:*) _roster_words "solve curve check value rest relax-rules relax-demand reuse explain rank next fits make" "$current" ;;
         [234]:solve | [234]:curve | 6:solve) _roster_files "$current" ;;
         5:solve | 5:curve | 4:make) _roster_words "1 10 100 1000 60s 600s" "$current" ;;
         [234]:check | [234]:value | [234]:rest | [234]:reuse) _roster_files "$current" ;;
+        2:relax-rules | [23]:relax-demand) _roster_files "$current" ;;
+        4:relax-demand) _roster_words "floors ceilings" "$current" ;;
         2:explain | 2:rank | 2:next | 2:fits | 3:make) _roster_files "$current" ;;
         3:rank) _roster_words "1 10 100 1000" "$current" ;;
     esac

@@ -8,7 +8,7 @@ use Rattle.day_questions.specs.Next.{NextAnswer}
 use Rattle.day_questions.specs.Fitting.{FitsAnswer}
 use Rattle.day_questions.proofs.OnceLemmas.{one-ranked, one-next, one-fits}
 use Rattle.search_commands.specs.Reuse.{Reusing}
-use Rattle.command_line.specs.Form.{Form, explain, rank, next, fits, check, value, rest, reuse, solve, curve, make, none}
+use Rattle.command_line.specs.Form.{Form, explain, rank, next, fits, check, value, rest, relax_rules, relax_demand, reuse, solve, curve, make, none}
 use Rattle.command_line.specs.OneAnswer.{HasOneAnswer}
 use Rattle.search_commands.proofs.OneEndLemmas.{solve-ends, make-ends}
 use Rattle.search_commands.proofs.CurveEnds.{curve-ends}
@@ -16,6 +16,8 @@ use Rattle.search_commands.proofs.SolveLemmas.{as-parts}
 use Rattle.search_commands.proofs.CurveLemmas.{as-curve-parts}
 use Rattle.search_commands.proofs.ReuseLemmas.{reused-once}
 use Rattle.search_commands.specs.Series.{answered}
+use Rattle.text_commands.specs.relax.Answers.{RelaxedRules, RelaxedDemand}
+use Rattle.text_commands.proofs.relax.Relaxings.{day-once, freed-once, relaxed-once}
 use Rattle.text_commands.specs.what_if.Rest.{Resting}
 use Rattle.text_commands.specs.what_if.Value.{Valuation}
 use Rattle.text_commands.proofs.what_if.Rests.{resting-once}
@@ -47,6 +49,10 @@ has-one-answer (value rules demand roster) = λ held s t a b h k.
 has-one-answer (rest rules demand roster) = λ held s t a b h k.
     texts-once Resting resting-once held rules demand roster s t a b
     (as-texts Resting (Some held) rules demand roster s a h) (as-texts Resting (Some held) rules demand roster t b k)
+has-one-answer (relax_rules rules) = λ held s t a b h k.
+    held-once RelaxedRules freed-once held rules s t a b (as-day RelaxedRules (Some held) rules s a h) (as-day RelaxedRules (Some held) rules t b k)
+has-one-answer (relax_demand kind rules demand) = λ held s t a b h k.
+    day-once (RelaxedDemand kind) (relaxed-once kind) held rules demand s t a b h k
 has-one-answer (reuse rules demand proof) = λ held s t a b h k.
     texts-once (ProofAnswers Reusing) (proof-once Reusing reused-once) held rules demand proof s t a b
     (as-cert-texts Reusing (Some held) rules demand proof s a h) (as-cert-texts Reusing (Some held) rules demand proof t b k)

@@ -2,12 +2,14 @@
 use Rattle.std.specs.Prelude.{ℕ, ◌≡◌, ◌-◌, List, [], ◌∷◌, Option, None, Some, Result, Ok, Err, codes, cond, drop, length, take, if◌then◌else◌}
 use Rattle.std.specs.Str.{bytes_eq}
 use Rattle.text_lines.specs.Fields.{number_at}
+use Rattle.relaxed_days.specs.declared.kind.Kind.{Kind}
+use Rattle.relaxed_days.specs.declared.kind.Kind.TheVariants.{Floors, Ceilings}
 use Rattle.search_commands.specs.declared.limit.Limit.{Limit}
 use Rattle.search_commands.specs.declared.limit.Limit.TheVariants.{Turns, Seconds}
 
 -- the words `explain RULES WORD`, `rank RULES MOST`, `next RULES PREFIX`, `fits RULES PATTERN`, each of these with
 -- a NAME of the rules behind or without, `check RULES DEMAND PROOF`, `value RULES DEMAND ROSTER`,
--- `rest RULES DEMAND ROSTER`,
+-- `rest RULES DEMAND ROSTER`, `relax-rules RULES`, `relax-demand RULES DEMAND KIND`,
 -- `reuse RULES DEMAND PROOF`, `solve RULES DEMAND PROOF LIMIT` with a name FROM behind or without,
 -- `curve RULES DEMAND PROOF LIMIT` with the NAME of a group behind or without, or `make NUMBER PROOF LIMIT`; no other
 -- words have a form
@@ -19,6 +21,8 @@ pub data Form : Type 0 where
   check : List ℕ → List ℕ → List ℕ → Form
   value : List ℕ → List ℕ → List ℕ → Form
   rest : List ℕ → List ℕ → List ℕ → Form
+  relax_rules : List ℕ → Form
+  relax_demand : Kind → List ℕ → List ℕ → Form
   reuse : List ℕ → List ℕ → List ℕ → Form
   solve : List ℕ → List ℕ → List ℕ → Limit → Option (List ℕ) → Form
   curve : List ℕ → List ℕ → List ℕ → Limit → Option (List ℕ) → Form
@@ -65,6 +69,16 @@ number_of_make w = number_or_none (number_at tt tt 0 4294967295 w)
 abbrev pub most_of : List ℕ → Option ℕ
 most_of w = number_or_none (number_at tt tt 1 1000 w)
 
+-- which bounds a word names
+abbrev pub kind_of : List ℕ → Option Kind
+kind_of w =
+    if bytes_eq w (codes "floors") then Some Floors
+    else (if bytes_eq w (codes "ceilings") then Some Ceilings else None)
+
+abbrev pub relax_form : List ℕ → List ℕ → Option Kind → Form
+relax_form rules demand (Some kind) = relax_demand kind rules demand
+relax_form rules demand None = none
+
 abbrev pub rank_form : List ℕ → Option ℕ → Option (List ℕ) → Form
 rank_form rules (Some most) start = rank rules most start
 rank_form rules None start = none
@@ -82,6 +96,10 @@ make_form (Some number) proof (Some limit) = make number proof limit
 make_form (Some number) proof None = none
 make_form None proof limit = none
 
+-- two words
+abbrev pub shortest_form : List ℕ → List ℕ → Form
+shortest_form command rules = if bytes_eq command (codes "relax-rules") then relax_rules rules else none
+
 -- three words, or four of which the last one is a name to begin at
 abbrev pub short_form : List ℕ → List ℕ → List ℕ → Option (List ℕ) → Form
 short_form command rules word start =
@@ -98,7 +116,8 @@ long_form command a b c =
     else (if bytes_eq command (codes "rest") then rest a b c
     else (if bytes_eq command (codes "reuse") then reuse a b c
     else (if bytes_eq command (codes "make") then make_form (number_of_make a) b (limit_of c)
-    else short_form command a b (Some c)))))
+    else (if bytes_eq command (codes "relax-demand") then relax_form a b (kind_of c)
+    else short_form command a b (Some c))))))
 
 -- five words, or six of which the last one is a name
 abbrev pub longest_form : List ℕ → List ℕ → List ℕ → List ℕ → List ℕ → Option (List ℕ) → Form
@@ -107,6 +126,7 @@ longest_form command rules demand proof limit name =
     else (if bytes_eq command (codes "curve") then curve_form rules demand proof (limit_of limit) name else none)
 
 abbrev pub form_of : List (List ℕ) → Form
+form_of (command ∷ rules ∷ []) = shortest_form command rules
 form_of (command ∷ rules ∷ word ∷ []) = short_form command rules word None
 form_of (command ∷ a ∷ b ∷ c ∷ []) = long_form command a b c
 form_of (command ∷ rules ∷ demand ∷ proof ∷ limit ∷ []) = longest_form command rules demand proof limit None

@@ -8,10 +8,12 @@ use Rattle.answers.specs.RulesCommands.{RulesCommand}
 use Rattle.answers.specs.Says.{CertCommand}
 use Rattle.text_commands.specs.Start.{AnswersNoForm}
 use Rattle.answers.specs.TextCommands.{TextCommand}
+use Rattle.text_commands.specs.relax.Answers.{RelaxedRules, RelaxedDemand}
+use Rattle.text_commands.specs.relax.DayCommands.{DayCommand}
 use Rattle.text_commands.specs.what_if.Rest.{Resting}
 use Rattle.text_commands.specs.what_if.Value.{Valuation}
 use Rattle.text_commands.specs.SameTexts.{AreSameButTree}
-use Rattle.command_line.specs.Form.{Form, explain, rank, next, fits, check, value, rest, reuse, solve, curve, make, none}
+use Rattle.command_line.specs.Form.{Form, explain, rank, next, fits, check, value, rest, relax_rules, relax_demand, reuse, solve, curve, make, none}
 use Rattle.search_commands.specs.CurveAnswers.{CurveAnswers}
 use Rattle.search_commands.specs.Make.{AnswersMake}
 use Rattle.search_commands.specs.Reuse.{Reusing}
@@ -42,6 +44,12 @@ HasOneAnswer (value rules demand roster) =
 HasOneAnswer (rest rules demand roster) =
     (held : Texts) (s t : ℕ) (a b : List ℕ) → TextCommand Resting (Some held) rules demand roster s a
     → TextCommand Resting (Some held) rules demand roster t b → (s ≡ t) × (a ≡ b)
+HasOneAnswer (relax_rules rules) =
+    (held : Texts) (s t : ℕ) (a b : List ℕ) → RulesCommand RelaxedRules (Some held) rules s a
+    → RulesCommand RelaxedRules (Some held) rules t b → (s ≡ t) × (a ≡ b)
+HasOneAnswer (relax_demand kind rules demand) =
+    (held : Texts) (s t : ℕ) (a b : List ℕ) → DayCommand (RelaxedDemand kind) (Some held) rules demand s a
+    → DayCommand (RelaxedDemand kind) (Some held) rules demand t b → (s ≡ t) × (a ≡ b)
 HasOneAnswer (reuse rules demand proof) =
     (held : Texts) (s t : ℕ) (a b : List ℕ) → CertCommand Reusing (Some held) rules demand proof s a
     → CertCommand Reusing (Some held) rules demand proof t b → (s ≡ t) × (a ≡ b)

@@ -1,6 +1,6 @@
 -- What the program does, by its words.
 use Rattle.std.specs.Prelude.{ℕ, [], ◌∷◌}
-use Rattle.command_line.specs.Form.{Form, explain, rank, next, fits, check, value, rest, reuse, solve, curve, make, none}
+use Rattle.command_line.specs.Form.{Form, explain, rank, next, fits, check, value, rest, relax_rules, relax_demand, reuse, solve, curve, make, none}
 use Rattle.shelf.specs.Shelf.{Told}
 use Rattle.text_commands.specs.Check.{Judgement}
 use Rattle.text_commands.specs.Days.{RankFrom, NextFrom, FitsFrom}
@@ -17,6 +17,8 @@ use Rattle.search_commands.specs.Series.{IsSeriesWriter}
 use Rattle.search_commands.specs.Solve.{MasterView, from_names}
 use Rattle.search_commands.specs.SolveAnswers.{SolveAnswers}
 use Rattle.search_commands.specs.Writer.{IsWriter}
+use Rattle.text_commands.specs.relax.Answers.{RelaxedRules, RelaxedDemand}
+use Rattle.text_commands.specs.relax.DayCommands.{DayCommand}
 use Rattle.text_commands.specs.what_if.Rest.{Resting}
 use Rattle.text_commands.specs.what_if.Value.{Valuation}
 
@@ -42,6 +44,10 @@ Does (value rules demand roster) before after m status =
 Does (rest rules demand roster) before after m status =
     IsReader (TextCommand Resting before.held rules demand roster) (rules ∷ demand ∷ roster ∷ [])
     before after status
+Does (relax_rules rules) before after m status =
+    IsReader (RulesCommand RelaxedRules before.held rules) (rules ∷ []) before after status
+Does (relax_demand kind rules demand) before after m status =
+    IsReader (DayCommand (RelaxedDemand kind) before.held rules demand) (rules ∷ demand ∷ []) before after status
 Does (reuse rules demand proof) before after m status =
     IsReader (CertCommand Reusing before.held rules demand proof) (rules ∷ demand ∷ proof ∷ []) before after status
 Does (solve rules demand proof limit from) before after m status =

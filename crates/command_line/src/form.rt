@@ -5,6 +5,7 @@ ghost use Rattle.command_line.specs.Form.{
   before_s,
   curve_form,
   form_of,
+  kind_of,
   limit_of,
   long_form,
   longest_form,
@@ -12,13 +13,16 @@ ghost use Rattle.command_line.specs.Form.{
   most_of,
   number_of_make,
   rank_form,
+  relax_form,
   seconds_limit,
   short_form,
+  shortest_form,
   solve_form,
   turns_limit,
 };
 ghost use Rattle.command_line.specs.Asked.{asked, HasNumbers, IsMost};
 
+use relaxed_days::Kind;
 use search_commands::limit::Limit;
 use text_lines::read_within;
 
@@ -66,6 +70,17 @@ pub enum Form<'a> {
         rules: &'a str,
         demand: &'a str,
         roster: &'a str,
+    },
+    /// The rules text under a name with each cost 0.
+    RelaxRules {
+        rules: &'a str,
+    },
+    /// The day of the rules and demand texts under names with its floors, or its ceilings, counted in place of being
+    /// strict.
+    RelaxDemand {
+        rules: &'a str,
+        demand: &'a str,
+        kind: Kind,
     },
     /// What the nodes of a certificate show on a day that it need not have been found for, by the texts of a check.
     Reuse {
@@ -162,6 +177,45 @@ pub(crate) fn number_of_make(word: &str) -> Option<u32>
         Ok(number) => Some(number as u32),
         Err(()) => None,
     }
+}
+
+// Returns which bounds a word names.
+pub(crate) fn kind_of(word: &str) -> Option<Kind>
+    ensures { result ≡ kind_of word.now }
+{
+    if word == "floors" {
+        return Some(Kind::Floors);
+    }
+    if word == "ceilings" {
+        return Some(Kind::Ceilings);
+    }
+    None
+}
+
+// Returns what `relax-demand` asks for, where a word names bounds.
+fn relax_form<'a>(rules: &'a str, demand: &'a str, kind: Option<Kind>) -> Form<'a>
+    ensures asked { asked result ≡ relax_form rules.now demand.now kind }
+    ensures numbers { HasNumbers result }
+{
+    match kind {
+        Some(kind) => Form::RelaxDemand {
+            rules,
+            demand,
+            kind,
+        },
+        None => Form::None,
+    }
+}
+
+// Returns what two words ask for.
+fn shortest_form<'a>(command: &str, rules: &'a str) -> Form<'a>
+    ensures asked { asked result ≡ shortest_form command.now rules.now }
+    ensures numbers { HasNumbers result }
+{
+    if command == "relax-rules" {
+        return Form::RelaxRules { rules };
+    }
+    Form::None
 }
 
 // Returns what `rank` asks for, where a word says how many trees.
@@ -329,6 +383,9 @@ fn long_form<'a>(command: &str, first: &'a str, second: &'a str, third: &'a str)
     if command == "make" {
         return make_form(number_of_make(first), second, limit_of(third));
     }
+    if command == "relax-demand" {
+        return relax_form(first, second, kind_of(third));
+    }
     short_form(command, first, second, Some(third))
 }
 
@@ -344,6 +401,7 @@ pub fn form_of(words: &[String]) -> Form<'_>
         return Form::None;
     }
     match words {
+        [command, rules] => shortest_form(command.as_str(), rules.as_str()),
         [command, rules, word] => {
             short_form(command.as_str(), rules.as_str(), word.as_str(), None)
         }

@@ -1,6 +1,6 @@
 ghost use Rattle.std.specs.Prelude.{◌≡◌};
 
-use crate::form::{limit_of, most_of, number_of_make};
+use crate::form::{kind_of, limit_of, most_of, number_of_make};
 use shelf::Shelf;
 
 /// The forms of the command line, one a line.
@@ -12,17 +12,21 @@ fits RULES PATTERN [NAME]
 check RULES DEMAND PROOF
 value RULES DEMAND ROSTER
 rest RULES DEMAND ROSTER
+relax-rules RULES
+relax-demand RULES DEMAND KIND
 reuse RULES DEMAND PROOF
 solve RULES DEMAND PROOF LIMIT [FROM]
 curve RULES DEMAND PROOF LIMIT [NAME]
 make NUMBER PROOF LIMIT
 LIMIT is 1 to 10000 turns, or 1s to 86400s for seconds; MOST 1 to 1000, NUMBER 0 to 4294967295;
-NAME is a name of the rules to begin at, in place of the start name; of curve the name of a group;
-FROM is an old proof to begin with";
+KIND is floors or ceilings; FROM is an old proof to begin with;
+NAME is a name of the rules to begin at, in place of the start name; of curve the name of a group";
 
 const LIMIT: &str = "LIMIT is a number of turns from 1 to 10000, or of seconds from 1s to 86400s";
 
 const MOST: &str = "MOST is a number from 1 to 1000";
+
+const KIND: &str = "KIND is floors or ceilings";
 
 const NUMBER: &str = "NUMBER is a number from 0 to 4294967295";
 
@@ -47,11 +51,14 @@ fn wrong<T: Drop>(number: Option<T>, note: &'static str) -> Option<&'static str>
     }
 }
 
-// Returns which number of words that begin and end as a form does is none that may stand there.
+// Returns which number, or which bounds, of words that begin and end as a form does is none that may stand there.
 fn wrong_number(words: &[String]) -> Option<&'static str> {
     match words {
         [command, _, most] | [command, _, most, _] if command.as_str() == "rank" => {
             wrong(most_of(most.as_str()), MOST)
+        }
+        [command, _, _, kind] if command.as_str() == "relax-demand" => {
+            wrong(kind_of(kind.as_str()), KIND)
         }
         [command, number, _, limit] if command.as_str() == "make" => {
             wrong_of_make(number.as_str(), limit.as_str())

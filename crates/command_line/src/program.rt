@@ -21,6 +21,8 @@ use text_commands::explain::explain;
 use text_commands::fits::fits;
 use text_commands::next::next;
 use text_commands::rank::rank;
+use text_commands::relax::demand::relax_demand;
+use text_commands::relax::rules::relax_rules;
 use text_commands::start::NO_FORM;
 use text_commands::what_if::rest::rest;
 use text_commands::what_if::value::value;
@@ -44,11 +46,11 @@ fn refuse_words<S: Shelf>(shelf: &mut S, words: &[String]) -> u8
 ///
 /// | status | comes |
 /// |---|---|
-/// | 0 | `explain RULES WORD`: the word is a shift; `rank RULES MOST`: the day has a tree; `next RULES PREFIX`: some code may follow the prefix; `fits RULES PATTERN`: a shift fits; `check RULES DEMAND PROOF`: the certificate is accepted; `value RULES DEMAND ROSTER`: the stated roster is allowed; `rest RULES DEMAND ROSTER`: a day remains beside the kept shifts; `reuse RULES DEMAND PROOF`: its nodes show a bound on this day; `solve RULES DEMAND PROOF LIMIT` and `make NUMBER PROOF LIMIT`: a roster was found, and no allowed roster costs less; `curve RULES DEMAND PROOF LIMIT`: so it is for some head count, and every point is closed |
+/// | 0 | `explain RULES WORD`: the word is a shift; `rank RULES MOST`: the day has a tree; `next RULES PREFIX`: some code may follow the prefix; `fits RULES PATTERN`: a shift fits; `check RULES DEMAND PROOF`: the certificate is accepted; `value RULES DEMAND ROSTER`: the stated roster is allowed; `rest RULES DEMAND ROSTER`: a day remains beside the kept shifts; `relax-rules RULES` and `relax-demand RULES DEMAND KIND`: the texts are accepted; `reuse RULES DEMAND PROOF`: its nodes show a bound on this day; `solve RULES DEMAND PROOF LIMIT` and `make NUMBER PROOF LIMIT`: a roster was found, and no allowed roster costs less; `curve RULES DEMAND PROOF LIMIT`: so it is for some head count, and every point is closed |
 /// | 1 | `explain`: the word is no shift; `rank`: the day has no tree; `next`: no code may follow; `fits`: no shift fits; `check`: the certificate is refused; `value`: the roster is not allowed; `rest`: no day remains; `reuse`: the nodes are refused; `solve`: no roster is allowed; `curve`: none is for any head count |
 /// | 2 | the words are none of the command's forms; `explain`, `rank`, `next`, `fits`: the rules have no such NAME; `curve`: the demand has no group NAME |
 /// | 3 | the rules text is refused |
-/// | 4 | `check`, `value`, `rest`, `reuse`, `solve`, `curve`: the demand text is refused; `curve` without a NAME: the day has groups |
+/// | 4 | `check`, `value`, `rest`, `relax-demand`, `reuse`, `solve`, `curve`: the demand text is refused; `curve` without a NAME: the day has groups |
 /// | 5 | `check`, `reuse`: the proof text is refused; `value`, `rest`: the roster text is; `solve`: the proof text FROM is |
 /// | 6 | the shelf refused a call, or a text that is no certificate stands where one is to be stored |
 /// | 7 | memory did not suffice |
@@ -57,7 +59,7 @@ fn refuse_words<S: Shelf>(shelf: &mut S, words: &[String]) -> u8
 ///
 /// LIMIT is a number of turns from 1 to 10,000, or one of seconds from 1 to 86,400 with an s behind it; the
 /// watch is told of a search between its turns, and asked within them too. MOST is one from 1 to 1,000, and
-/// NUMBER one from 0 to 4,294,967,295. In PATTERN `#` stands for any code. `explain`, `rank`, `next` and
+/// NUMBER one from 0 to 4,294,967,295. KIND is `floors` or `ceilings`. In PATTERN `#` stands for any code. `explain`, `rank`, `next` and
 /// `fits` take a name of the rules as a last word, from which they derive then in place of the start name.
 /// `curve` takes the name of a group of the demand, whose greatest number it varies, and `solve` the name
 /// FROM of an old certificate: what it finds costs no more than the roster of that, where this is allowed on
@@ -107,6 +109,12 @@ pub fn run<S: Shelf, M: Master, W: Watch>(
             demand,
             roster,
         } => rest(alloc, shelf, rules, demand, roster),
+        Form::RelaxRules { rules } => relax_rules(alloc, shelf, rules),
+        Form::RelaxDemand {
+            rules,
+            demand,
+            kind,
+        } => relax_demand(alloc, shelf, kind, rules, demand),
         Form::Reuse {
             rules,
             demand,

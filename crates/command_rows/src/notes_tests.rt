@@ -43,6 +43,7 @@ result none
 demand: line 2: no shift has a in period 1
 floor a period 1: 2, at most 1
 floor a period 1: 2, but no shift has a there
+how much is missing, relax-rules RULES and relax-demand RULES DEMAND floors tell, or ceilings
 > solve free_pairs pairs p 2
 < 8 ..
 result turns
@@ -120,13 +121,15 @@ fits RULES PATTERN [NAME]
 check RULES DEMAND PROOF
 value RULES DEMAND ROSTER
 rest RULES DEMAND ROSTER
+relax-rules RULES
+relax-demand RULES DEMAND KIND
 reuse RULES DEMAND PROOF
 solve RULES DEMAND PROOF LIMIT [FROM]
 curve RULES DEMAND PROOF LIMIT [NAME]
 make NUMBER PROOF LIMIT
 LIMIT is 1 to 10000 turns, or 1s to 86400s for seconds; MOST 1 to 1000, NUMBER 0 to 4294967295;
-NAME is a name of the rules to begin at, in place of the start name; of curve the name of a group;
-FROM is an old proof to begin with
+KIND is floors or ceilings; FROM is an old proof to begin with;
+NAME is a name of the rules to begin at, in place of the start name; of curve the name of a group
 ";
 
 /// Words without a form, each behind `>`, and what is noted behind the forms.
@@ -137,6 +140,10 @@ const NO_FORMS: &str = "
 MOST is a number from 1 to 1000
 > rank g1 0 W
 MOST is a number from 1 to 1000
+> relax-rules
+> relax-demand g1 q1
+> relax-demand g1 q1 floor
+KIND is floors or ceilings
 > solve g1 q1 p 0
 LIMIT is a number of turns from 1 to 10000, or of seconds from 1s to 86400s
 > solve g1 q1 p 010

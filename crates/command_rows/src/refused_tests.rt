@@ -13,6 +13,8 @@ fits g1 #a#. > g1
 check g2 q2 halves > g2 q2 halves
 value g1 q1 pair > g1 q1 pair
 rest g1 q1 pair > g1 q1 pair
+relax-rules g1 > g1
+relax-demand g1 limits floors > g1 limits
 reuse g2 two_each halves > g2 two_each halves
 solve g1 q1 p 10 > g1 q1 +p
 solve g2 q2 p 10 halves > g2 q2 halves +p

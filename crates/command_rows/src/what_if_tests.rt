@@ -119,3 +119,54 @@ roster: line 2: unknown line
 fn kept_shifts_leave_a_demand(rt: HostRuntime) -> Result<(), Fail> {
     have_answers(rt.alloc(), KEPT)
 }
+
+/// Rules at no cost, and days whose floors or ceilings are counted in place of being strict.
+const RELAXED: &str = "
+> relax-rules g1
+< 0
+periods 4
+work a
+idle .
+start S
+rule S 0 = W
+rule S 0 = R W
+rule S 0 = W R
+rule S 0 = R W R
+rule W 0 = A len 2 3
+rule A 0 = 'a'
+rule A 0 = 'a' A
+rule R 0 = '.'
+rule R 0 = '.' R
+> relax-rules proof
+periods 1; periods 2
+< 3
+rules: line 2: said twice
+> relax-demand g1 limits floors
+< 0
+heads 0 3
+need a 1 0 1 2 0 0
+most a 64 64 1 0
+> relax-demand g1 limits ceilings
+< 0
+heads 0 3
+need a 0 1 64 64 1 0
+least a 1 2 0 0
+> relax-demand g6 q7 floors
+< 0
+group F 0 1
+group H 1 2
+need a 1 0 0 0
+> relax-demand proof nowhere floors
+periods 1; periods 2
+< 3
+rules: line 2: said twice
+> relax-demand g1 proof ceilings
+heads 2 1
+< 4
+demand: line 1: out of range
+";
+
+#[test]
+fn a_relaxed_day_counts_what_is_missing(rt: HostRuntime) -> Result<(), Fail> {
+    have_answers(rt.alloc(), RELAXED)
+}

@@ -11,6 +11,10 @@ use std::alloc::Global;
 const UNPROVED: &str =
     "nothing is proved yet: give more turns or seconds, or make the rules simpler";
 
+/// What tells how far a day is from having a roster.
+const RELAXED: &str =
+    "how much is missing, relax-rules RULES and relax-demand RULES DEMAND floors tell, or ceilings";
+
 /// The most rows of a program that has prices.
 const MOST_ROWS: usize = 1_500;
 
@@ -42,6 +46,15 @@ fn note_infeasible<S: Shelf>(alloc: Global, shelf: &mut S, instance: &Instance)
         Some(text) if !text.is_empty() => shelf.note(text.as_str()),
         _ => {}
     }
+}
+
+// Notes why no roster is allowed, where the day alone shows it, and what tells how far the day is from having one.
+fn note_none<S: Shelf>(alloc: Global, shelf: &mut S, instance: &Instance)
+    requires { IsSoundInstance instance.now }
+    ensures { S.told shelf.new ≡ S.told shelf.old }
+{
+    note_infeasible(alloc, shelf, instance);
+    shelf.note(RELAXED);
 }
 
 // Whether a node has no prices, and so shows nothing of itself.
@@ -102,7 +115,7 @@ pub(crate) fn note_search<S: Shelf>(
     ensures { S.told shelf.new ≡ S.told shelf.old }
 {
     match status {
-        1 => note_infeasible(alloc, shelf, instance),
+        1 => note_none(alloc, shelf, instance),
         _ => note_unproved_day(alloc, shelf, instance, cert, status),
     }
 }

@@ -5,3 +5,4 @@ pub mod Statuses
 pub mod Days
 pub mod SameTexts
 pub mod what_if
+pub mod relax

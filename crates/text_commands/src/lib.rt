@@ -1,5 +1,6 @@
 //! Commands that answer from texts alone: what a word costs, the first trees of a day, what may come next,
-//! what fits, whether a certificate is accepted, what a stated roster comes to and what remains beside kept shifts.
+//! what fits, whether a certificate is accepted, what a stated roster comes to, what remains beside kept shifts, and
+//! a day that counts how far another is from having a roster.
 //! They store nothing.
 #![tactic(auto)]
 
@@ -10,6 +11,7 @@ pub mod next;
 pub mod oddities;
 mod oddity_text;
 pub mod rank;
+pub mod relax;
 pub mod start;
 mod text_places;
 mod unfit;

@@ -35,3 +35,9 @@ returns-in-Value-clause-one_answer g c = has-one-answer (form_of (map string_byt
 
 pub returns-in-Rest-clause-one_answer : goal.returns-in-Rest-clause-one_answer
 returns-in-Rest-clause-one_answer g c = has-one-answer (form_of (map string_bytes c.args.words.now))
+
+pub returns-in-RelaxRules-clause-one_answer : goal.returns-in-RelaxRules-clause-one_answer
+returns-in-RelaxRules-clause-one_answer g c = has-one-answer (form_of (map string_bytes c.args.words.now))
+
+pub returns-in-RelaxDemand-clause-one_answer : goal.returns-in-RelaxDemand-clause-one_answer
+returns-in-RelaxDemand-clause-one_answer g c = has-one-answer (form_of (map string_bytes c.args.words.now))

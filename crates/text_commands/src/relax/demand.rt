@@ -1,0 +1,99 @@
+ghost use Rattle.std.specs.Prelude.{[], ◌∷◌, IfOk};
+ghost use Rattle.roster_model.specs.Sound.{IsPlain, IsSound};
+ghost use Rattle.roster_model.specs.SoundInstance.{IsSoundInstance};
+ghost use Rattle.answers.specs.Reader.{IsReader};
+ghost use Rattle.text_commands.specs.relax.Answers.{RelaxedDemand};
+ghost use Rattle.text_commands.specs.relax.DayCommands.{AnswersUnder, DayCommand, DemandAnswer, RulesAnswer};
+
+use answers::{
+    Answer, MOST_DEMAND, MOST_RULES, demand_refusal, fetched, rules_refusal, say_answer,
+    say_answer_to,
+};
+use demand_text::read_demand;
+use relaxed_days::{Kind, write_relaxed_demand};
+use roster_model::{Grammar, Instance, Memory};
+use rules_text::read_rules;
+use shelf::Shelf;
+use std::alloc::Global;
+
+// Says the relaxed day of a day.
+fn relaxed(alloc: Global, kind: Kind, instance: Instance) -> Result<Answer, Memory>
+    requires { IsSoundInstance instance }
+    ensures { IfOk result (λ a. RelaxedDemand kind instance a.status a.output) }
+{
+    let output = write_relaxed_demand(alloc, kind, instance)?;
+    Ok(Answer { status: 0, output })
+}
+
+// Says the relaxed day of a demand text, or why the text is refused.
+fn say_relaxed<S: Shelf>(
+    alloc: Global,
+    shelf: &mut S,
+    kind: Kind,
+    grammar: Grammar,
+    text: &[u8],
+) -> u8
+    requires sound { IsSound grammar }
+    requires plain { IsPlain grammar }
+    ensures { IsReader (λ s o. DemandAnswer (RelaxedDemand kind) grammar text.now s o) []
+        (S.told shelf.old) (S.told shelf.new) result }
+{
+    match read_demand(alloc, grammar, text) {
+        Ok(instance) => say_answer(shelf, relaxed(alloc, kind, instance)),
+        Err(fault) => say_answer_to(shelf, text, demand_refusal(alloc, fault)),
+    }
+}
+
+// Says what is answered to the demand text under a name.
+fn relax_under<S: Shelf>(
+    alloc: Global,
+    shelf: &mut S,
+    kind: Kind,
+    grammar: Grammar,
+    demand: &str,
+) -> u8
+    requires sound { IsSound grammar }
+    requires plain { IsPlain grammar }
+    ensures { IsReader (AnswersUnder (RelaxedDemand kind) (S.told shelf.old).held grammar demand.now)
+        (demand.now ∷ []) (S.told shelf.old) (S.told shelf.new) result }
+{
+    match fetched(alloc, shelf, demand, MOST_DEMAND) {
+        Ok(text) => say_relaxed(alloc, shelf, kind, grammar, text.as_slice()),
+        Err(status) => status,
+    }
+}
+
+// Says what is answered to a rules text and the demand text under a name.
+fn relax_by_rules<S: Shelf>(
+    alloc: Global,
+    shelf: &mut S,
+    kind: Kind,
+    text: &[u8],
+    demand: &str,
+) -> u8
+    ensures { IsReader (RulesAnswer (RelaxedDemand kind) (S.told shelf.old).held text.now demand.now)
+        (demand.now ∷ []) (S.told shelf.old) (S.told shelf.new) result }
+{
+    match read_rules(alloc, text) {
+        Ok(grammar) => relax_under(alloc, shelf, kind, grammar, demand),
+        Err(fault) => say_answer_to(shelf, text, rules_refusal(alloc, fault)),
+    }
+}
+
+/// Says the demand text of the day of the rules and demand texts under names, with the floors, or the ceilings,
+/// counted in place of being strict; or why a text is refused. The texts are fetched and read in this order.
+pub fn relax_demand<S: Shelf>(
+    alloc: Global,
+    shelf: &mut S,
+    kind: Kind,
+    rules: &str,
+    demand: &str,
+) -> u8
+    ensures { IsReader (DayCommand (RelaxedDemand kind) (S.told shelf.old).held rules.now demand.now)
+        (rules.now ∷ demand.now ∷ []) (S.told shelf.old) (S.told shelf.new) result }
+{
+    match fetched(alloc, shelf, rules, MOST_RULES) {
+        Ok(text) => relax_by_rules(alloc, shelf, kind, text.as_slice(), demand),
+        Err(status) => status,
+    }
+}

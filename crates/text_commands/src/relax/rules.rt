@@ -1,0 +1,45 @@
+ghost use Rattle.std.specs.Prelude.{[], ◌∷◌, IfOk};
+ghost use Rattle.roster_model.specs.Sound.{IsPlain, IsSound};
+ghost use Rattle.answers.specs.Reader.{IsReader};
+ghost use Rattle.answers.specs.RulesCommands.{RulesCommand};
+ghost use Rattle.text_commands.specs.Days.{DayAnswer};
+ghost use Rattle.text_commands.specs.relax.Answers.{RelaxedRules};
+
+use answers::{Answer, MOST_RULES, fetched, rules_refusal, say_answer, say_answer_to};
+use relaxed_days::write_free_rules;
+use roster_model::{Grammar, Memory};
+use rules_text::read_rules;
+use shelf::Shelf;
+use std::alloc::Global;
+
+// Says a grammar at no cost.
+fn freed(alloc: Global, grammar: Grammar) -> Result<Answer, Memory>
+    requires sound { IsSound grammar }
+    requires plain { IsPlain grammar }
+    ensures { IfOk result (λ a. RelaxedRules grammar a.status a.output) }
+{
+    let output = write_free_rules(alloc, grammar)?;
+    Ok(Answer { status: 0, output })
+}
+
+// Says the rules of a text at no cost, or why the text is refused.
+fn say_freed<S: Shelf>(alloc: Global, shelf: &mut S, text: &[u8]) -> u8
+    ensures { IsReader (λ s o. DayAnswer RelaxedRules text.now s o) []
+        (S.told shelf.old) (S.told shelf.new) result }
+{
+    match read_rules(alloc, text) {
+        Ok(grammar) => say_answer(shelf, freed(alloc, grammar)),
+        Err(fault) => say_answer_to(shelf, text, rules_refusal(alloc, fault)),
+    }
+}
+
+/// Says the rules text under a name with each cost 0, or why the text is refused.
+pub fn relax_rules<S: Shelf>(alloc: Global, shelf: &mut S, rules: &str) -> u8
+    ensures { IsReader (RulesCommand RelaxedRules (S.told shelf.old).held rules.now) (rules.now ∷ [])
+        (S.told shelf.old) (S.told shelf.new) result }
+{
+    match fetched(alloc, shelf, rules, MOST_RULES) {
+        Ok(text) => say_freed(alloc, shelf, text.as_slice()),
+        Err(status) => status,
+    }
+}
