@@ -6,7 +6,7 @@ ghost use Rattle.answers.specs.Reader.{IsReader};
 ghost use Rattle.answers.specs.TextCommands.{TextCommand};
 
 use crate::answer::Answer;
-use crate::fetch::{fetched, say_answer_to};
+use crate::fetch::{fetched, say_answer_to, say_remarked, status_of_answer};
 use crate::limits::{MOST_DEMAND, MOST_RULES};
 use crate::question::Question;
 use crate::refusals::{demand_refusal, rules_refusal};
@@ -31,7 +31,9 @@ fn ask_third<S: Shelf, Q: Question>(
     match fetched(alloc, shelf, third, question.most()) {
         Ok(text) => {
             let text = text.as_slice();
-            say_answer_to(shelf, text, question.answer(alloc, instance, text))
+            let said = question.answer(alloc, instance, text);
+            let remark = question.remark(alloc, instance, text, status_of_answer(&said));
+            say_remarked(shelf, text, said, remark)
         }
         Err(status) => status,
     }

@@ -1,4 +1,4 @@
-ghost use Rattle.std.specs.Prelude.{◌≢◌, ◌∷◌, [], IfOk, IfErr};
+ghost use Rattle.std.specs.Prelude.{◌≡◌, ◌≢◌, ◌∷◌, [], IfOk, IfErr};
 ghost use Rattle.answers.specs.Fetch.{IsAnswer, IsFetchTo, NoAnswer};
 ghost use Rattle.answers.specs.Reader.{IsReader};
 
@@ -43,8 +43,8 @@ pub fn say_answer<S: Shelf>(shelf: &mut S, answer: Result<Answer, Memory>) -> u8
     }
 }
 
-// Returns the status of an answer, or that of want of memory.
-fn status_of_answer(answer: &Result<Answer, Memory>) -> u8 {
+/// Returns the status of an answer, or that of want of memory.
+pub(crate) fn status_of_answer(answer: &Result<Answer, Memory>) -> u8 {
     match answer {
         Ok(answer) => answer.status,
         Err(Memory) => MEMORY,
@@ -59,4 +59,28 @@ pub fn say_answer_to<S: Shelf>(shelf: &mut S, text: &[u8], answer: Result<Answer
 {
     note_encoding(shelf, text, status_of_answer(&answer));
     say_answer(shelf, answer)
+}
+
+// Notes a remark, where there is one.
+fn note_remark<S: Shelf>(shelf: &mut S, remark: Option<String>)
+    ensures { S.told shelf.new ≡ S.told shelf.old }
+{
+    match remark {
+        Some(note) => shelf.note(note.as_str()),
+        None => {}
+    }
+}
+
+/// Says an answer to a text as `say_answer_to` does, and notes a remark on the text before, where there is one.
+pub fn say_remarked<S: Shelf>(
+    shelf: &mut S,
+    text: &[u8],
+    answer: Result<Answer, Memory>,
+    remark: Option<String>,
+) -> u8
+    requires { IfOk answer (λ a. (a.status ≢ 6) × (a.status ≢ 7)) }
+    ensures { IsReader (IsAnswer answer) [] (S.told shelf.old) (S.told shelf.new) result }
+{
+    note_remark(shelf, remark);
+    say_answer_to(shelf, text, answer)
 }

@@ -29,6 +29,21 @@ pub trait Question {
         requires { IsSoundInstance instance.now }
         ensures { IfOk result (λ a. answers self.now instance.now text.now a.status a.output) };
 
+    /// Returns what is noted to a person of a text beside the answer of this status, where anything is. No clause
+    /// speaks of it.
+    fn remark(
+        &self,
+        _alloc: Global,
+        instance: &Instance,
+        _text: &[u8],
+        _status: u8,
+    ) -> Option<String>
+        requires { IsSoundInstance instance.now }
+    {
+        let _ = instance;
+        None
+    }
+
     // No answer has the status of a refusal.
     ghost ends: { (q : Self) (i : Day) (text : List ℕ) (status : ℕ) (output : List ℕ)
         → answers q i text status output → (status ≢ 6) × (status ≢ 7) };

@@ -82,7 +82,8 @@ fn stated_rosters_have_their_cost(rt: HostRuntime) -> Result<(), Fail> {
     have_answers(rt.alloc(), STATED)
 }
 
-/// Kept shifts, and the demand that they leave or why they leave none.
+/// Kept shifts, and the demand that they leave or why they leave none; what is noted of a report from which shifts
+/// are gone.
 const KEPT: &str = "
 > rest g1 limits proof
 shift aa..
@@ -109,6 +110,28 @@ shift 2 a.a.: no shift
 heads 4: at most 3
 ceiling a period 3: 2 of 1
 ceiling a period 4: 1 of 0
+> rest g1 q1 proof
+report 1; result optimal; shifts 2; shift .aaa 5; shift aaa. 5
+< 1
+nobody left
+!
+> rest g1 q1 proof
+report 1; result optimal; shifts 2; shift .aaa 5
+< 0 ..
+heads 0 1
+!
+roster: line 3: 1 of 2 shifts gone, and the heads line still lets 2 work
+> rest g6 q7 proof
+report 2; shifts 3; shift F aa 3
+< 0 ..
+group H 1 2
+!
+roster: line 2: 2 of 3 shifts gone, and the group lines still let 3 work
+> rest g1 q1 proof
+report 1; shifts 3; shift .aaa 5
+< 0 ..
+heads 0 1
+!
 > rest g1 q1 proof
 shift .aaa; shift
 < 5

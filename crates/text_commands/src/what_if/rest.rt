@@ -6,6 +6,7 @@ ghost use Rattle.answers.specs.Reader.{IsReader};
 ghost use Rattle.answers.specs.TextCommands.{TextCommand};
 ghost use Rattle.text_commands.specs.what_if.Rest.{Resting};
 
+use crate::what_if::gone::gone_note;
 use crate::what_if::limits::MOST_ROSTER;
 use crate::what_if::value::roster_refusal;
 use answers::{Answer, Question, ask};
@@ -76,6 +77,20 @@ impl Question for KeptShifts {
     // Says what remains of the day beside the roster that the text states.
     fn answer(&self, alloc: Global, instance: &Instance, text: &[u8]) -> Result<Answer, Memory> {
         resting(alloc, instance, text)
+    }
+
+    // Tells of shifts that are gone from a report.
+    fn remark(
+        &self,
+        alloc: Global,
+        instance: &Instance,
+        text: &[u8],
+        status: u8,
+    ) -> Option<String> {
+        match status {
+            0 | 1 => gone_note(alloc, instance, text),
+            _ => None,
+        }
     }
 }
 
