@@ -49,6 +49,11 @@ how much is missing, relax-rules RULES and relax-demand RULES DEMAND floors tell
 result turns
 !
 nothing is proved yet: give more turns or seconds, or make the rules simpler
+> solve two_jobs two_needs p 10
+< 0 ..
+cost 11
+!
+demand: line 3: nobody works at b: a shift with it in a period of need costs 30 at least, a missing one 10 a period
 > solve long_idle one_head p 1
 < 9 ..
 !

@@ -179,6 +179,12 @@ start S
 rule S 0 = 'a'
 rule S 0 = S S
 rule S 0 = 'a' len 2 2
+@ two_jobs
+periods 2
+work a b
+start S
+rule S 1 = 'a' 'a'
+rule S 30 = 'b' 'b'
 @ cycle
 periods 4
 start A
@@ -228,6 +234,10 @@ most a 1 64
 @ pairs
 heads 0 3
 need a 10 1 1 1 1
+@ two_needs
+heads 0 3
+need a 10 0 1 1
+need b 10 0 1 0
 @ q3
 heads 0 12
 need a 30 1 0 0 0 0 1 1 2 2 3 3 2 2 1 1 2 2 3 3 2 2 1 1 0 0

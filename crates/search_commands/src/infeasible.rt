@@ -93,21 +93,21 @@ fn add_unstaffable(alloc: Global, instance: &Instance, text: &mut String) -> Opt
     Some(())
 }
 
-// Whether some shift has the code of a cell in its period, by marginals that are filled.
-fn has_code(grammar: &Grammar, marginals: &Marginals, cell: &Cell) -> bool
+/// Returns the least sum of a shift that has the code of a cell in its period, by marginals that are filled.
+pub(crate) fn least_at(grammar: &Grammar, marginals: &Marginals, cell: &Cell) -> Option<i128>
     requires { AreMadeFor grammar.now marginals.now }
 {
     if (cell.code as usize) < grammar.codes.len()
         && 1 <= cell.period
         && cell.period <= grammar.periods
     {
-        return marginals.at(cell.code, cell.period).is_some();
+        return marginals.at(cell.code, cell.period);
     }
-    false
+    None
 }
 
-// Returns the letter of a cell's code.
-fn letter_of(grammar: &Grammar, cell: &Cell) -> char {
+/// Returns the letter of a cell's code.
+pub(crate) fn letter_of(grammar: &Grammar, cell: &Cell) -> char {
     match grammar.codes.as_slice().get(cell.code as usize) {
         Some(code) => char::from(code.byte),
         None => '?',
@@ -135,7 +135,7 @@ fn add_cell(
             format!(in alloc; "floor {letter} period {period}: {floor}, at most {most}").ok()?,
         )?;
     }
-    if 0 < floor && !has_code(&instance.grammar, marginals, cell) {
+    if 0 < floor && least_at(&instance.grammar, marginals, cell).is_none() {
         add_line(
             text,
             format!(in alloc;

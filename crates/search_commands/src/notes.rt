@@ -1,6 +1,7 @@
 ghost use Rattle.std.specs.Prelude.{◌≡◌};
 ghost use Rattle.roster_model.specs.SoundInstance.{IsSoundInstance};
 
+use crate::idle_codes::idle_codes_text;
 use crate::infeasible::infeasible_text;
 use certificates::{Cert, Node};
 use master_rows::count_rows;
@@ -102,11 +103,29 @@ fn note_unproved_day<S: Shelf>(
     }
 }
 
-/// Notes of a search that ended with this status why no roster is allowed, with 1, and with 8 what is to be
-/// done where nothing is proved.
+// Notes the codes of need at which nobody works.
+fn note_idle<S: Shelf>(
+    alloc: Global,
+    shelf: &mut S,
+    demand: &[u8],
+    instance: &Instance,
+    cert: &Cert,
+)
+    requires { IsSoundInstance instance.now }
+    ensures { S.told shelf.new ≡ S.told shelf.old }
+{
+    match idle_codes_text(alloc, demand, instance, cert) {
+        Some(text) if !text.is_empty() => shelf.note(text.as_str()),
+        _ => {}
+    }
+}
+
+/// Notes of a search that ended with this status why no roster is allowed, with 1; else at which codes of need nobody
+/// works, where there is a roster, and with 8 what is to be done where nothing is proved.
 pub(crate) fn note_search<S: Shelf>(
     alloc: Global,
     shelf: &mut S,
+    demand: &[u8],
     instance: &Instance,
     cert: &Cert,
     status: u8,
@@ -116,6 +135,9 @@ pub(crate) fn note_search<S: Shelf>(
 {
     match status {
         1 => note_none(alloc, shelf, instance),
-        _ => note_unproved_day(alloc, shelf, instance, cert, status),
+        _ => {
+            note_idle(alloc, shelf, demand, instance, cert);
+            note_unproved_day(alloc, shelf, instance, cert, status);
+        }
     }
 }

@@ -122,11 +122,12 @@ fn searched<M: Master, W: Watch>(
     }
 }
 
-// Searches an instance, from an old certificate where there is one, stores the certificate under a name, and says
-// the report.
+// Searches an instance, whose demand text this is, from an old certificate where there is one, stores the certificate
+// under a name, and says the report.
 fn solve_instance<S: Shelf, M: Master, W: Watch>(
     alloc: Global,
     shelf: &mut S,
+    demand: &[u8],
     instance: &Instance,
     old: Option<&Cert>,
     proof: &str,
@@ -148,7 +149,7 @@ fn solve_instance<S: Shelf, M: Master, W: Watch>(
         Ok(solution) => {
             let answer = report_answer(alloc, instance, &solution.found);
             let status = store_and_say(shelf, proof, solution.proof.as_slice(), answer);
-            note_search(alloc, shelf, instance, &solution.found.cert, status);
+            note_search(alloc, shelf, demand, instance, &solution.found.cert, status);
             status
         }
         Err(fault) => say_answer(shelf, graph_refusal(alloc, fault)),
@@ -159,6 +160,7 @@ fn solve_instance<S: Shelf, M: Master, W: Watch>(
 fn solve_asked<S: Shelf, M: Master, W: Watch>(
     alloc: Global,
     shelf: &mut S,
+    demand: &[u8],
     instance: &Instance,
     old: Option<&Cert>,
     proof: &str,
@@ -174,7 +176,9 @@ fn solve_asked<S: Shelf, M: Master, W: Watch>(
         (S.told shelf.new) result }
 {
     match ask_name(shelf, proof) {
-        Ok(()) => solve_instance(alloc, shelf, instance, old, proof, limit, master, watch),
+        Ok(()) => solve_instance(
+            alloc, shelf, demand, instance, old, proof, limit, master, watch,
+        ),
         Err(status) => status,
     }
 }
@@ -183,6 +187,7 @@ fn solve_asked<S: Shelf, M: Master, W: Watch>(
 fn solve_proof_text<S: Shelf, M: Master, W: Watch>(
     alloc: Global,
     shelf: &mut S,
+    demand: &[u8],
     instance: &Instance,
     text: &[u8],
     proof: &str,
@@ -199,6 +204,7 @@ fn solve_proof_text<S: Shelf, M: Master, W: Watch>(
         Ok(cert) => solve_asked(
             alloc,
             shelf,
+            demand,
             instance,
             Some(&cert),
             proof,
@@ -214,6 +220,7 @@ fn solve_proof_text<S: Shelf, M: Master, W: Watch>(
 fn solve_proof<S: Shelf, M: Master, W: Watch>(
     alloc: Global,
     shelf: &mut S,
+    demand: &[u8],
     instance: &Instance,
     from: &str,
     proof: &str,
@@ -231,6 +238,7 @@ fn solve_proof<S: Shelf, M: Master, W: Watch>(
         Ok(text) => solve_proof_text(
             alloc,
             shelf,
+            demand,
             instance,
             text.as_slice(),
             proof,
@@ -246,6 +254,7 @@ fn solve_proof<S: Shelf, M: Master, W: Watch>(
 fn solve_from<S: Shelf, M: Master, W: Watch>(
     alloc: Global,
     shelf: &mut S,
+    demand: &[u8],
     instance: &Instance,
     from: Option<&str>,
     proof: &str,
@@ -260,8 +269,12 @@ fn solve_from<S: Shelf, M: Master, W: Watch>(
         (from_names (option_copied from.entry)) proof.now (S.told shelf.old) (S.told shelf.new) result }
 {
     match from {
-        Some(from) => solve_proof(alloc, shelf, instance, from, proof, limit, master, watch),
-        None => solve_asked(alloc, shelf, instance, None, proof, limit, master, watch),
+        Some(from) => solve_proof(
+            alloc, shelf, demand, instance, from, proof, limit, master, watch,
+        ),
+        None => solve_asked(
+            alloc, shelf, demand, instance, None, proof, limit, master, watch,
+        ),
     }
 }
 
@@ -288,7 +301,9 @@ fn solve_demand_text<S: Shelf, M: Master, W: Watch>(
     match read_demand(alloc, grammar, text) {
         Ok(instance) => {
             note_day(alloc, shelf, rules, text, &instance);
-            solve_from(alloc, shelf, &instance, from, proof, limit, master, watch)
+            solve_from(
+                alloc, shelf, text, &instance, from, proof, limit, master, watch,
+            )
         }
         Err(fault) => say_answer_to(shelf, text, demand_refusal(alloc, fault)),
     }

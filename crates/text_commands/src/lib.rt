@@ -13,6 +13,6 @@ mod oddity_text;
 pub mod rank;
 pub mod relax;
 pub mod start;
-mod text_places;
+pub mod text_places;
 mod unfit;
 pub mod what_if;

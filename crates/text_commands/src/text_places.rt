@@ -7,7 +7,7 @@ const MOST_BYTES: usize = 1_048_576;
 
 /// How a line is known.
 #[derive(Clone, Copy)]
-pub(crate) enum Mark<'a> {
+pub enum Mark<'a> {
     /// Its second word is this one.
     Second(&'a [u8]),
     /// One of the words after the first is this one.
@@ -44,7 +44,7 @@ fn is_marked(line: &Line<'_>, mark: Mark<'_>) -> bool {
 }
 
 /// Returns the number of the line that begins with a word and is so often, from 1, the next of them.
-pub(crate) fn nth_line(text: &[u8], first: &[u8], nth: usize) -> Option<u32> {
+pub fn nth_line(text: &[u8], first: &[u8], nth: usize) -> Option<u32> {
     if text.len() > MOST_BYTES {
         return None;
     }
@@ -63,7 +63,7 @@ pub(crate) fn nth_line(text: &[u8], first: &[u8], nth: usize) -> Option<u32> {
 }
 
 /// Returns the number of the first line that begins with a word and is known so.
-pub(crate) fn marked_line(text: &[u8], first: &[u8], mark: Mark<'_>) -> Option<u32> {
+pub fn marked_line(text: &[u8], first: &[u8], mark: Mark<'_>) -> Option<u32> {
     if text.len() > MOST_BYTES {
         return None;
     }
