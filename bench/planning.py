@@ -134,7 +134,8 @@ def wrong_faults(folder):
     many = {f"too many {what}, at most {most}": (RULES, old, new) for what, (most, old, new) in MANY.items()}
     for fault, (file, old, new) in {**FAULTS, **many}.items():
         said = edited(file, old, new, folder)
-        if not re.fullmatch(rf"{pathlib.Path(file).suffix[1:]}: (line \d+: )?{re.escape(fault)}\n", said):
+        kind = pathlib.Path(file).suffix[1:]
+        if not re.fullmatch(rf"{kind}: (line \d+: )?{re.escape(fault)}\n{kind}: .+\n", said):
             yield f"{fault}: {said!r}"
     said = run(f"./roster solve /tmp/absent {DEMAND} /tmp/edited.proof 1", folder)
     if said != f"{folder}/absent: no such file\n":

@@ -1,5 +1,5 @@
 -- The answers of commands that ask something of a third text, from what their parts answer.
-use Rattle.std.proofs.Common.{◌≡◌, ◌≢◌, ℕ, List, Option, Result, Ok, Err, IfOk, ap, subst, ◌∙◌}
+use Rattle.std.proofs.Common.{◌≡◌, ◌≢◌, ℕ, List, Option, Result, Ok, Err, IfOk, subst, ◌∙◌}
 use Rattle.std.specs.Prelude.{Some, None, [], ◌∷◌}
 use Rattle.roster_model.specs.declared.grammar.Grammar.{Grammar}
 use Rattle.roster_model.specs.declared.instance.Instance.{Instance}

@@ -4,7 +4,7 @@ use Rattle.std.specs.Prelude.{IfSome, IsSome, IsTrue}
 use Rattle.std.specs.FinMap as fin
 use Rattle.std.proofs.lemmas.List.{take_all}
 use Rattle.shelf.specs.Shelf.{Texts, Told, Fetched, front_to}
-use Rattle.answers.specs.Fetch.{IsFetch, IsFetchTo}
+use Rattle.answers.specs.Fetch.{IsFetchTo}
 use Rattle.answers.specs.Reader.{Holds}
 
 -- what a call of the shelf did that fetched the first bytes of a text

@@ -1,5 +1,5 @@
 -- A command's answers, one data a command, are those that its parts say one after another, and the other way round.
-use Rattle.std.proofs.Common.{◌≡◌, ℕ, List, [], ◌∷◌, Option}
+use Rattle.std.proofs.Common.{ℕ, List, [], ◌∷◌, Option}
 use Rattle.shelf.specs.Shelf.{Texts, Told}
 use Rattle.answers.specs.Asked.{CertAnswers, ProofAnswers, TextAnswers, AnswersTexts}
 use Rattle.answers.specs.Asked as asked

@@ -1,5 +1,5 @@
 -- What commands answer that ask something of a third text by a day.
-use Rattle.std.specs.Prelude.{ℕ, ◌≡◌, List, Option, Ok, Err}
+use Rattle.std.specs.Prelude.{ℕ, ◌≡◌, List, Option, Ok}
 use Rattle.roster_model.specs.declared.grammar.Grammar.{Grammar}
 use Rattle.roster_model.specs.declared.instance.Instance.{Instance}
 use Rattle.certificates.specs.declared.cert.Cert.{Cert}

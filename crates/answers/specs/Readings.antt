@@ -1,5 +1,5 @@
 -- What a text is read as, or why it is refused.
-use Rattle.std.specs.Prelude.{ℕ, ◌≡◌, List, Option, Ok, Err, codes}
+use Rattle.std.specs.Prelude.{ℕ, ◌≡◌, List, Ok, Err}
 use Rattle.roster_model.specs.declared.grammar.Grammar.{Grammar}
 use Rattle.roster_model.specs.Sound.{IsSound}
 use Rattle.rules_text.specs.RulesOf.{IsReading}

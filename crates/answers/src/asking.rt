@@ -6,11 +6,12 @@ ghost use Rattle.answers.specs.Reader.{IsReader};
 ghost use Rattle.answers.specs.TextCommands.{TextCommand};
 
 use crate::answer::Answer;
-use crate::fetch::{fetched, say_answer_to, say_remarked, status_of_answer};
+use crate::fetch::{fetched, say_remarked, status_of_answer};
 use crate::limits::{MOST_DEMAND, MOST_RULES};
 use crate::question::Question;
 use crate::refusals::{demand_refusal, rules_refusal};
 use demand_text::read_demand;
+use fault_notes::{demand_note, rules_note};
 use roster_model::{Grammar, Instance};
 use rules_text::read_rules;
 use shelf::Shelf;
@@ -53,9 +54,13 @@ fn ask_demand_text<S: Shelf, Q: Question>(
     ensures { IsReader (DemandAnswers (Q.answers question.now) (S.told shelf.old).held
         grammar text.now third.now) (third.now ∷ []) (S.told shelf.old) (S.told shelf.new) result }
 {
+    let periods = grammar.periods;
     match read_demand(alloc, grammar, text) {
         Ok(instance) => ask_third(alloc, shelf, &instance, third, question),
-        Err(fault) => say_answer_to(shelf, text, demand_refusal(alloc, fault)),
+        Err(fault) => {
+            let note = demand_note(alloc, text, periods, fault);
+            say_remarked(shelf, text, demand_refusal(alloc, fault), note)
+        }
     }
 }
 
@@ -74,7 +79,10 @@ pub fn ask_texts<S: Shelf, Q: Question>(
 {
     match read_rules(alloc, rules) {
         Ok(grammar) => ask_demand_text(alloc, shelf, grammar, demand, third, question),
-        Err(fault) => say_answer_to(shelf, rules, rules_refusal(alloc, fault)),
+        Err(fault) => {
+            let note = rules_note(alloc, rules, fault);
+            say_remarked(shelf, rules, rules_refusal(alloc, fault), note)
+        }
     }
 }
 
@@ -115,7 +123,10 @@ pub fn ask_rules_text<S: Shelf, Q: Question>(
 {
     match read_rules(alloc, text) {
         Ok(grammar) => ask_demand(alloc, shelf, grammar, demand, third, question),
-        Err(fault) => say_answer_to(shelf, text, rules_refusal(alloc, fault)),
+        Err(fault) => {
+            let note = rules_note(alloc, text, fault);
+            say_remarked(shelf, text, rules_refusal(alloc, fault), note)
+        }
     }
 }
 

@@ -61,8 +61,8 @@ pub fn say_answer_to<S: Shelf>(shelf: &mut S, text: &[u8], answer: Result<Answer
     say_answer(shelf, answer)
 }
 
-// Notes a remark, where there is one.
-fn note_remark<S: Shelf>(shelf: &mut S, remark: Option<String>)
+/// Notes a remark, where there is one.
+pub fn note_remark<S: Shelf>(shelf: &mut S, remark: Option<String>)
     ensures { S.told shelf.new ≡ S.told shelf.old }
 {
     match remark {

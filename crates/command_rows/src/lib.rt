@@ -7,6 +7,8 @@ mod answer_tests;
 #[cfg(test)]
 mod check_tests;
 #[cfg(test)]
+mod fault_tests;
+#[cfg(test)]
 mod notes_tests;
 #[cfg(test)]
 mod refused_tests;

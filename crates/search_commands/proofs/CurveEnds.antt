@@ -23,7 +23,7 @@ use Rattle.day_solver.specs.declared.day_curve.points.CurvePoint.{CurvePoint}
 use Rattle.shelf.specs.Shelf.{Texts}
 use Rattle.search_commands.specs.Curve.{Point, ArePoints, point_entries, said_points, is_same, is_closed, has_no_cost, curve_status, SaysCurve, SaysNoTeam, Curving, CurvesDemand, AnswersCurveDemand, CurvesRules, AnswersCurve}
 use Rattle.search_commands.specs.Curve as curves
-use Rattle.search_commands.specs.OneEnd.{EndsAlike, costs_of, SayOneCurve}
+use Rattle.search_commands.specs.OneEnd.{EndsAlike, costs_of}
 use Rattle.search_commands.specs.Series.{Entry, End, answered, broken_off}
 use Rattle.search_commands.specs.Solve.{MasterView}
 use Rattle.search_commands.proofs.CurveAnswers.{some-points}

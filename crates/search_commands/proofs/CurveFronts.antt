@@ -1,5 +1,5 @@
 -- What `curve` answers to the first bytes of a text, up to one above its limit, are answers to the text.
-use Rattle.std.proofs.Common.{◌≡◌, ℕ, List, Option}
+use Rattle.std.proofs.Common.{ℕ, List, Option}
 use Rattle.roster_model.specs.declared.grammar.Grammar.{Grammar}
 use Rattle.shelf.specs.Shelf.{Texts, front_to}
 use Rattle.answers.specs.RulesFronts.{grammar-whole, fault-whole}

@@ -1,5 +1,5 @@
 -- The answers of `curve`, one data, are those that its parts say one after another, and the other way round.
-use Rattle.std.proofs.Common.{◌≡◌, ℕ, List, [], ◌∷◌, Option}
+use Rattle.std.proofs.Common.{ℕ, List, [], ◌∷◌, Option}
 use Rattle.roster_model.specs.declared.grammar.Grammar.{Grammar}
 use Rattle.shelf.specs.Shelf.{Texts, Told}
 use Rattle.answers.specs.Fetch.{IsFetchTo, NoAnswer}

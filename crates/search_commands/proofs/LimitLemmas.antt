@@ -1,5 +1,5 @@
 -- What holds for the limit of a search.
-use Rattle.std.proofs.Common.{ℕ, ◌≡◌, ◌≤◌, Bool, Option, None, Some, subst, ◌∙◌, arith}
+use Rattle.std.proofs.Common.{ℕ, ◌≡◌, Bool, Option, None, subst, ◌∙◌, arith}
 use Rattle.std.specs.Prelude.{IsTrue}
 use Rattle.search_watch.specs.Within.{IsWithin}
 use Rattle.search_commands.specs.declared.limit.Limit.{Limit}

@@ -1,5 +1,5 @@
 -- Two searches of one day that end with the cost as the bound say one cost.
-use Rattle.std.proofs.Common.{◌≡◌, ◌≤◌, ℕ, List, [], ◌∷◌, ◌++◌, Option, None, Some, refl, sym, ap, subst, ◌∙◌, arith}
+use Rattle.std.proofs.Common.{◌≡◌, ◌≤◌, ℕ, List, [], ◌∷◌, Option, None, Some, refl, sym, ap, subst, ◌∙◌, arith}
 use Rattle.std.specs.Prelude.{IsSome, IfSome, codes, length}
 use Rattle.search_commands.specs.declared.limit.Limit.{Limit}
 use Rattle.search_commands.proofs.LimitLemmas.{for-some}
@@ -20,9 +20,8 @@ use Rattle.branch_price.specs.Found.{IsDone, IsFound}
 use Rattle.day_solver.specs.Solutions.{HasArcCount, IsReportText}
 use Rattle.made_days.specs.Made.{made_instance}
 use Rattle.roster_report.specs.declared.report.Report.{Report}
-use Rattle.roster_report.specs.declared.summary.Summary.{Summary}
 use Rattle.roster_report.specs.ReportText.{header_line, result_line, number_line, cost_lines, report_lines}
-use Rattle.roster_report.specs.SummaryText.{day_lines, search_lines, summary_text}
+use Rattle.roster_report.specs.SummaryText.{summary_text}
 use Rattle.search_commands.specs.Make.{SaysMade, summary_of}
 use Rattle.search_commands.specs.OneEnd.{lines_with_cost, SayOneCost}
 use Rattle.search_commands.specs.Solve.{MasterView, Finds, SaysFound, done_status}

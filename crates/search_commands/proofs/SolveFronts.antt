@@ -1,5 +1,5 @@
 -- What `solve` answers to the first bytes of a text, up to one above its limit, are answers to the text.
-use Rattle.std.proofs.Common.{◌≡◌, ◌∙◌, ℕ, List, Option, sym}
+use Rattle.std.proofs.Common.{◌∙◌, ℕ, List, Option, sym}
 use Rattle.roster_model.specs.declared.grammar.Grammar.{Grammar}
 use Rattle.roster_model.specs.declared.instance.Instance.{Instance}
 use Rattle.shelf.specs.Shelf.{Texts, front_to}

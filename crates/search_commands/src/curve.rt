@@ -39,11 +39,12 @@ use crate::solve::graph_refusal;
 use crate::store::ask_name;
 use answers::{
     Answer, MEMORY, MOST_DEMAND, MOST_RULES, demand_refusal, fetched, rules_refusal, say,
-    say_answer, say_answer_to, status_of,
+    say_answer, say_remarked, status_of,
 };
 use branch_price::{Master, Subject, Watch};
 use day_solver::{CurvePoint, DayCurve, Solution, Staff, staff_of, write_curve};
 use demand_text::read_demand;
+use fault_notes::{demand_note, rules_note};
 use roster_model::{Grammar, Instance, Memory};
 use rules_text::read_rules;
 use shelf::Shelf;
@@ -480,12 +481,16 @@ fn curve_demand_text<S: Shelf, M: Master, W: Watch>(
         (MayStoreDemand proof.now (option_copied group.entry) grammar text.now)
         (S.told shelf.old) (S.told shelf.new) result }
 {
+    let periods = grammar.periods;
     match read_demand(alloc, grammar, text) {
         Ok(instance) => {
             note_day(alloc, shelf, rules, text, &instance);
             curve_instance(alloc, shelf, instance, group, proof, limit, master, watch)
         }
-        Err(fault) => say_answer_to(shelf, text, demand_refusal(alloc, fault)),
+        Err(fault) => {
+            let note = demand_note(alloc, text, periods, fault);
+            say_remarked(shelf, text, demand_refusal(alloc, fault), note)
+        }
     }
 }
 
@@ -551,7 +556,10 @@ fn curve_rules_text<S: Shelf, M: Master, W: Watch>(
         Ok(grammar) => curve_demand(
             alloc, shelf, text, grammar, demand, group, proof, limit, master, watch,
         ),
-        Err(fault) => say_answer_to(shelf, text, rules_refusal(alloc, fault)),
+        Err(fault) => {
+            let note = rules_note(alloc, text, fault);
+            say_remarked(shelf, text, rules_refusal(alloc, fault), note)
+        }
     }
 }
 

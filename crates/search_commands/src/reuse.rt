@@ -15,6 +15,7 @@ use proof_reuse::{Reused, write_reused};
 use roster_model::{Instance, Memory};
 use shelf::Shelf;
 use std::alloc::Global;
+use text_commands::check::proof_remark;
 
 /// Says why a proof text is refused.
 ///
@@ -95,6 +96,17 @@ impl Question for OldNodes {
     // Says what the nodes of the certificate of a proof text show.
     fn answer(&self, alloc: Global, instance: &Instance, text: &[u8]) -> Result<Answer, Memory> {
         reusing(alloc, instance, text)
+    }
+
+    // Tells what is wrong with a text that is refused.
+    fn remark(
+        &self,
+        alloc: Global,
+        instance: &Instance,
+        text: &[u8],
+        status: u8,
+    ) -> Option<String> {
+        proof_remark(alloc, instance, text, status)
     }
 }
 

@@ -31,13 +31,14 @@ use crate::reuse::text_refusal;
 use crate::store::{ask_name, store_and_say};
 use answers::{
     Answer, MOST_DEMAND, MOST_PROOF, MOST_RULES, demand_refusal, fetched, rules_refusal,
-    say_answer, say_answer_to,
+    say_answer, say_remarked,
 };
 use branch_price::{Done, Found, Master, Subject, Watch};
 use certificate_text::read_cert;
 use certificates::Cert;
 use day_solver::{Solution, solution_report, solve_day, solve_day_from};
 use demand_text::read_demand;
+use fault_notes::{demand_note, proof_note, rules_note};
 use parse_graph::GraphFault;
 use roster_model::{Grammar, Instance, List, Memory};
 use rules_text::read_rules;
@@ -212,7 +213,10 @@ fn solve_proof_text<S: Shelf, M: Master, W: Watch>(
             master,
             watch,
         ),
-        Err(fault) => say_answer_to(shelf, text, text_refusal(alloc, fault)),
+        Err(fault) => {
+            let note = proof_note(alloc, text, instance, fault);
+            say_remarked(shelf, text, text_refusal(alloc, fault), note)
+        }
     }
 }
 
@@ -298,6 +302,7 @@ fn solve_demand_text<S: Shelf, M: Master, W: Watch>(
         (lent (M.strict master.old) (M.refused master.old) (M.refused master.new)) limit)
         (from_names (option_copied from.entry)) proof.now (S.told shelf.old) (S.told shelf.new) result }
 {
+    let periods = grammar.periods;
     match read_demand(alloc, grammar, text) {
         Ok(instance) => {
             note_day(alloc, shelf, rules, text, &instance);
@@ -305,7 +310,10 @@ fn solve_demand_text<S: Shelf, M: Master, W: Watch>(
                 alloc, shelf, text, &instance, from, proof, limit, master, watch,
             )
         }
-        Err(fault) => say_answer_to(shelf, text, demand_refusal(alloc, fault)),
+        Err(fault) => {
+            let note = demand_note(alloc, text, periods, fault);
+            say_remarked(shelf, text, demand_refusal(alloc, fault), note)
+        }
     }
 }
 
@@ -371,7 +379,10 @@ fn solve_rules_text<S: Shelf, M: Master, W: Watch>(
         Ok(grammar) => solve_demand(
             alloc, shelf, text, grammar, demand, from, proof, limit, master, watch,
         ),
-        Err(fault) => say_answer_to(shelf, text, rules_refusal(alloc, fault)),
+        Err(fault) => {
+            let note = rules_note(alloc, text, fault);
+            say_remarked(shelf, text, rules_refusal(alloc, fault), note)
+        }
     }
 }
 

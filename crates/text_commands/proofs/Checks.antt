@@ -1,6 +1,5 @@
 -- The answers of commands that ask something of a third text, from what their parts answer.
-use Rattle.std.proofs.Common.{◌≡◌, ◌≢◌, ℕ, List, Option, Result, Ok, Err, IfOk, ap, subst, ◌∙◌}
-use Rattle.std.specs.Prelude.{Some, None, [], ◌∷◌}
+use Rattle.std.proofs.Common.{◌≡◌, ℕ, List, Result, Ok, Err, IfOk, ap, ◌∙◌}
 use Rattle.roster_model.specs.declared.instance.Instance.{Instance}
 use Rattle.roster_model.specs.declared.memory.Memory.{Memory}
 use Rattle.certificates.specs.declared.cert.Cert.{Cert}
@@ -13,7 +12,6 @@ use Rattle.answer_texts.specs.VerdictText.{verdict_text}
 use Rattle.proof_pieces.specs.declared.fault.PieceFault.{PieceFault}
 use Rattle.proof_pieces.specs.CertOf.{proof_fault}
 use Rattle.proof_pieces.specs.FaultLine as proof
-use Rattle.rules_text.specs.FaultLine.{fault_line}
 use Rattle.answers.specs.declared.answer.Answer.{Answer}
 use Rattle.answers.specs.Asked.{CertAnswers, ProofAnswers}
 use Rattle.text_commands.specs.Check.{Judgement, yes, no, verdict_status}

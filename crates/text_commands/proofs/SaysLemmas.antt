@@ -1,5 +1,5 @@
 -- A command's answers, one data a command, are those that its parts say one after another, and the other way round.
-use Rattle.std.proofs.Common.{◌≡◌, ℕ, List, [], ◌∷◌, Option}
+use Rattle.std.proofs.Common.{ℕ, List, [], ◌∷◌, Option}
 use Rattle.roster_model.specs.declared.grammar.Grammar.{Grammar}
 use Rattle.shelf.specs.Shelf.{Texts, Told}
 use Rattle.text_commands.specs.Days.{AnswersDay}

@@ -1,5 +1,5 @@
 -- What `check RULES DEMAND PROOF` answers.
-use Rattle.std.specs.Prelude.{ℕ, ◌≡◌, List, Option, Ok, Err}
+use Rattle.std.specs.Prelude.{ℕ, ◌≡◌, List}
 use Rattle.roster_model.specs.declared.instance.Instance.{Instance}
 use Rattle.certificates.specs.declared.cert.Cert.{Cert}
 use Rattle.certificates.specs.declared.verdict.Verdict.{Verdict}

@@ -1,5 +1,5 @@
 -- What `explain RULES WORD` answers, and `explain RULES WORD NAME`.
-use Rattle.std.specs.Prelude.{ℕ, ◌≡◌, List, Option, Ok, Err, codes}
+use Rattle.std.specs.Prelude.{ℕ, ◌≡◌, List, Option, codes}
 use Rattle.roster_model.specs.declared.grammar.Grammar.{Grammar}
 use Rattle.roster_model.specs.Shifts.{IsShift, IsPrice, IsWordTree}
 use Rattle.roster_model.specs.Trees.{Parts, steps}

@@ -1,5 +1,5 @@
 -- No verdict has the status of a refusal of the shelf.
-use Rattle.std.proofs.Common.{◌≡◌, ◌≢◌, ℕ, ◌<◌, List, arith, refl}
+use Rattle.std.proofs.Common.{◌≢◌, ℕ, List, arith, refl}
 use Rattle.roster_model.specs.declared.instance.Instance.{Instance}
 use Rattle.certificates.specs.declared.cert.Cert.{Cert}
 use Rattle.text_commands.specs.Check.{Judgement, yes, no}

@@ -10,7 +10,9 @@ ghost use Rattle.answers.specs.Says.{CertCommand};
 
 use answer_texts::write_verdict;
 use answers::{Answer, MOST_PROOF, Question, ask, proof_refusal};
+use certificate_text::read_cert;
 use certificates::Verdict;
+use fault_notes::proof_note;
 use proof_check::{Bench, Judged};
 use proof_pieces::CertRoom;
 use roster_model::{Instance, Memory};
@@ -81,6 +83,20 @@ fn judgement(alloc: Global, instance: &Instance, text: &[u8]) -> Result<Answer, 
     }
 }
 
+/// Returns what is noted of a proof text to which an answer has this status: where it refuses the text, with 5, what
+/// stands there and what is wanted.
+pub fn proof_remark(alloc: Global, instance: &Instance, text: &[u8], status: u8) -> Option<String>
+    requires { IsSoundInstance instance.now }
+{
+    if status != 5 {
+        return None;
+    }
+    match read_cert(alloc, instance, text) {
+        Ok(_) => None,
+        Err(fault) => proof_note(alloc, text, instance, fault),
+    }
+}
+
 // Whether a certificate is accepted.
 struct Acceptance;
 
@@ -107,6 +123,17 @@ impl Question for Acceptance {
     // Says whether the certificate of a proof text is accepted.
     fn answer(&self, alloc: Global, instance: &Instance, text: &[u8]) -> Result<Answer, Memory> {
         judgement(alloc, instance, text)
+    }
+
+    // Tells what is wrong with a text that is refused.
+    fn remark(
+        &self,
+        alloc: Global,
+        instance: &Instance,
+        text: &[u8],
+        status: u8,
+    ) -> Option<String> {
+        proof_remark(alloc, instance, text, status)
     }
 }
 

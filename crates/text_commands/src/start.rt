@@ -4,8 +4,10 @@ ghost use Rattle.std.specs.Str.{bytes_eq};
 ghost use Rattle.roster_model.specs.Sound.{IsPlain, IsSound};
 ghost use Rattle.text_commands.specs.Start.{AnswersNoForm, grammar_from, name_place, started};
 
-use answers::{Answer, note_encoding};
+use answers::{Answer, note_encoding, note_remark};
+use fault_notes::rules_note;
 use roster_model::{Grammar, List, Memory};
+use rules_text::read_rules;
 use shelf::Shelf;
 use std::alloc::Global;
 
@@ -98,6 +100,31 @@ fn note_start<S: Shelf>(alloc: Global, shelf: &mut S, start: Option<&str>)
     }
 }
 
+// Returns what is noted of a rules text that is refused.
+fn fault_note(alloc: Global, text: &[u8]) -> Option<String> {
+    match read_rules(alloc, text) {
+        Ok(_) => None,
+        Err(fault) => rules_note(alloc, text, fault),
+    }
+}
+
+// Notes why a rules text is refused, with the status 3.
+fn note_fault<S: Shelf>(alloc: Global, shelf: &mut S, text: &[u8], status: u8)
+    ensures { S.told shelf.new ≡ S.told shelf.old }
+{
+    if status == 3 {
+        note_remark(shelf, fault_note(alloc, text));
+    }
+}
+
+// Notes why a rules text is refused, and what it shows of its encoding, where an answer has such a status.
+fn note_text<S: Shelf>(alloc: Global, shelf: &mut S, text: &[u8], status: u8)
+    ensures { S.told shelf.new ≡ S.told shelf.old }
+{
+    note_fault(alloc, shelf, text, status);
+    note_encoding(shelf, text, status);
+}
+
 /// Notes why a rules text, or a name to begin at, is refused, where an answer has such a status: 2 for the name, 3 for
 /// the text.
 pub(crate) fn note_refused<S: Shelf>(
@@ -111,6 +138,6 @@ pub(crate) fn note_refused<S: Shelf>(
 {
     match status {
         2 => note_start(alloc, shelf, start),
-        _ => note_encoding(shelf, text, status),
+        _ => note_text(alloc, shelf, text, status),
     }
 }

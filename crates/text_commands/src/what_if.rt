@@ -6,3 +6,4 @@ pub mod laws;
 mod limits;
 pub mod rest;
 pub mod value;
+mod wrong;

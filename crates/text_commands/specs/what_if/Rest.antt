@@ -1,5 +1,5 @@
 -- What `rest RULES DEMAND ROSTER` answers.
-use Rattle.std.specs.Prelude.{ℕ, ◌≡◌, List, Option, Ok}
+use Rattle.std.specs.Prelude.{ℕ, ◌≡◌, List, Ok}
 use Rattle.roster_model.specs.declared.instance.Instance.{Instance}
 use Rattle.roster_model.specs.declared.instance.Shift.{Shift}
 use Rattle.roster_value.specs.remaining_day.Answers.{RestAnswer}

@@ -1,5 +1,5 @@
 -- No answer to a roster text has the status of a refusal.
-use Rattle.std.proofs.Common.{◌≡◌, ◌≢◌, ℕ, List, arith, refl, sym, ◌∙◌}
+use Rattle.std.proofs.Common.{◌≢◌, ℕ, List, arith, refl, sym, ◌∙◌}
 use Rattle.roster_model.specs.declared.instance.Instance.{Instance}
 use Rattle.roster_model.specs.declared.instance.Shift.{Shift}
 use Rattle.roster_value.specs.Answers.{StatedAnswer}

@@ -7,9 +7,10 @@ ghost use Rattle.text_commands.specs.relax.DayCommands.{AnswersUnder, DayCommand
 
 use answers::{
     Answer, MOST_DEMAND, MOST_RULES, demand_refusal, fetched, rules_refusal, say_answer,
-    say_answer_to,
+    say_remarked,
 };
 use demand_text::read_demand;
+use fault_notes::{demand_note, rules_note};
 use relaxed_days::{Kind, write_relaxed_demand};
 use roster_model::{Grammar, Instance, Memory};
 use rules_text::read_rules;
@@ -38,9 +39,13 @@ fn say_relaxed<S: Shelf>(
     ensures { IsReader (λ s o. DemandAnswer (RelaxedDemand kind) grammar text.now s o) []
         (S.told shelf.old) (S.told shelf.new) result }
 {
+    let periods = grammar.periods;
     match read_demand(alloc, grammar, text) {
         Ok(instance) => say_answer(shelf, relaxed(alloc, kind, instance)),
-        Err(fault) => say_answer_to(shelf, text, demand_refusal(alloc, fault)),
+        Err(fault) => {
+            let note = demand_note(alloc, text, periods, fault);
+            say_remarked(shelf, text, demand_refusal(alloc, fault), note)
+        }
     }
 }
 
@@ -76,7 +81,10 @@ fn relax_by_rules<S: Shelf>(
 {
     match read_rules(alloc, text) {
         Ok(grammar) => relax_under(alloc, shelf, kind, grammar, demand),
-        Err(fault) => say_answer_to(shelf, text, rules_refusal(alloc, fault)),
+        Err(fault) => {
+            let note = rules_note(alloc, text, fault);
+            say_remarked(shelf, text, rules_refusal(alloc, fault), note)
+        }
     }
 }
 

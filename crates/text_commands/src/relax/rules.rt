@@ -5,7 +5,8 @@ ghost use Rattle.answers.specs.RulesCommands.{RulesCommand};
 ghost use Rattle.text_commands.specs.Days.{DayAnswer};
 ghost use Rattle.text_commands.specs.relax.Answers.{RelaxedRules};
 
-use answers::{Answer, MOST_RULES, fetched, rules_refusal, say_answer, say_answer_to};
+use answers::{Answer, MOST_RULES, fetched, rules_refusal, say_answer, say_remarked};
+use fault_notes::rules_note;
 use relaxed_days::write_free_rules;
 use roster_model::{Grammar, Memory};
 use rules_text::read_rules;
@@ -29,7 +30,10 @@ fn say_freed<S: Shelf>(alloc: Global, shelf: &mut S, text: &[u8]) -> u8
 {
     match read_rules(alloc, text) {
         Ok(grammar) => say_answer(shelf, freed(alloc, grammar)),
-        Err(fault) => say_answer_to(shelf, text, rules_refusal(alloc, fault)),
+        Err(fault) => {
+            let note = rules_note(alloc, text, fault);
+            say_remarked(shelf, text, rules_refusal(alloc, fault), note)
+        }
     }
 }
 

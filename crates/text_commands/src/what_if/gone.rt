@@ -54,8 +54,11 @@ fn with_line(counts: Counts, line: &Line<'_>) -> Counts {
     }
 }
 
-// Counts the shifts of a report; `None` where a line has a bad byte.
+// Counts the shifts of a roster text that is a report; `None` where it is none, or has a bad byte.
 fn counts_of(text: &[u8]) -> Option<Counts> {
+    if MOST_ROSTER < text.len() || !begins_report(text) {
+        return None;
+    }
     let mut lines = Lines::new(text);
     let mut counts = Counts {
         line: 0,
@@ -91,9 +94,6 @@ fn gone_text(alloc: Global, instance: &Instance, counts: Counts) -> Option<Strin
 /// Returns what is noted of a report that says more shifts than stand in it, where as many as it says may still work;
 /// nothing after want of memory.
 pub(crate) fn gone_note(alloc: Global, instance: &Instance, text: &[u8]) -> Option<String> {
-    if MOST_ROSTER < text.len() || !begins_report(text) {
-        return None;
-    }
     let counts = counts_of(text)?;
     if counts.said <= counts.there || instance.heads_max < counts.said {
         return None;

@@ -9,6 +9,7 @@ ghost use Rattle.text_commands.specs.what_if.Rest.{Resting};
 use crate::what_if::gone::gone_note;
 use crate::what_if::limits::MOST_ROSTER;
 use crate::what_if::value::roster_refusal;
+use crate::what_if::wrong::{both, roster_remark};
 use answers::{Answer, Question, ask};
 use roster_model::{Instance, Memory, Shift};
 use roster_value::{Remaining, read_roster, remaining, rest_status, write_remaining};
@@ -79,7 +80,8 @@ impl Question for KeptShifts {
         resting(alloc, instance, text)
     }
 
-    // Tells of shifts that are gone from a report.
+    // Tells what is wrong with a text that is refused, of a comment in a word, and of shifts that are gone from a
+    // report.
     fn remark(
         &self,
         alloc: Global,
@@ -87,9 +89,10 @@ impl Question for KeptShifts {
         text: &[u8],
         status: u8,
     ) -> Option<String> {
+        let remark = roster_remark(alloc, instance, text, status);
         match status {
-            0 | 1 => gone_note(alloc, instance, text),
-            _ => None,
+            0 | 1 => both(remark, gone_note(alloc, instance, text)),
+            _ => remark,
         }
     }
 }

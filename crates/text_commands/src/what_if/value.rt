@@ -8,6 +8,7 @@ ghost use Rattle.answers.specs.TextCommands.{TextCommand};
 ghost use Rattle.text_commands.specs.what_if.Value.{Valuation};
 
 use crate::what_if::limits::MOST_ROSTER;
+use crate::what_if::wrong::roster_remark;
 use answers::{Answer, Question, ask};
 use roster_model::{Instance, Memory, Shift};
 use roster_value::{RosterFault, fault_line, read_roster, stated_answer};
@@ -86,6 +87,17 @@ impl Question for StatedValue {
     // Says what the roster that the text states comes to.
     fn answer(&self, alloc: Global, instance: &Instance, text: &[u8]) -> Result<Answer, Memory> {
         valuation(alloc, instance, text)
+    }
+
+    // Tells what is wrong with a text that is refused, and of a comment in a word.
+    fn remark(
+        &self,
+        alloc: Global,
+        instance: &Instance,
+        text: &[u8],
+        status: u8,
+    ) -> Option<String> {
+        roster_remark(alloc, instance, text, status)
     }
 }
 

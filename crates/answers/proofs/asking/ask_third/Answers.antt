@@ -11,8 +11,8 @@ returns-in-Ok g c =
     let middle : Told = g.S.Shelf.told c.fetched.new.shelf in
     let after : Told = g.S.Shelf.told c.say_remarked.new.shelf in
     let question = c.args.question.now in
-    third-read (g.Q.Question.answers question) before after c.say_remarked.result (g.Q.Question.limit question) (g.met.Q.Question.fronts question) c.args.instance.now c.args.third.now c.in-Ok.text.items middle c.answer.result
-    (rw c.most.ensures at c.in-Ok.ensures.text) (rw c.as_slice-text.ensures.value at c.answer.ensures) c.say_remarked.ensures
+    third-read (g.Q.Question.answers question) before after c.say_remarked.result (g.Q.Question.limit question) (g.met.Q.Question.fronts question) c.args.instance.now c.args.third.now c.in-Ok.text.items middle c.answer-said.result
+    (rw c.most.ensures at c.in-Ok.ensures.text) (rw c.as_slice-text.ensures.value at c.answer-said.ensures) c.say_remarked.ensures
 
 pub returns-in-Err : goal.returns-in-Err
 returns-in-Err g c =
@@ -22,4 +22,4 @@ returns-in-Err g c =
 
 pub say_remarked-requires : goal.say_remarked-requires
 say_remarked-requires g c =
-    IfOk-map _ _ c.answer.result (λ a h. g.met.Q.Question.ends c.args.question.now c.args.instance.now c.as_slice-text.result.now a.status a.output h) c.answer.ensures
+    IfOk-map _ _ c.answer-said.result (λ a h. g.met.Q.Question.ends c.args.question.now c.args.instance.now c.as_slice-text.result.now a.status a.output h) c.answer-said.ensures

@@ -6,4 +6,4 @@ returns-in-Ok g c = proof-accepted c.args.proof.now _ _ _ c.args.instance.now _ 
 
 pub returns-in-Err : goal.returns-in-Err
 returns-in-Err g c =
-    proof-refused c.args.proof.now _ _ _ c.args.instance.now _ c.args.limit c.args.text.now c.in-Err.fault c.text_refusal.result c.text_refusal.ensures c.in-Err.ensures.value c.say_answer_to.ensures
+    proof-refused c.args.proof.now _ _ _ c.args.instance.now _ c.args.limit c.args.text.now c.in-Err.fault c.text_refusal.result c.text_refusal.ensures c.in-Err.ensures.value c.say_remarked.ensures

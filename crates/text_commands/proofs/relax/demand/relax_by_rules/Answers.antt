@@ -12,5 +12,5 @@ returns-in-Ok g c =
 pub returns-in-Err : goal.returns-in-Err
 returns-in-Err g c =
     let before : Told = g.S.Shelf.told c.args.shelf.now in
-    let after : Told = g.S.Shelf.told c.say_answer_to.new.shelf in
-    rules-refused (RelaxedDemand c.args.kind) c.args.text.now c.args.demand.now c.in-Err.fault c.rules_refusal.result before after c.say_answer_to.result c.rules_refusal.ensures c.in-Err.ensures.value c.say_answer_to.ensures
+    let after : Told = g.S.Shelf.told c.say_remarked.new.shelf in
+    rules-refused (RelaxedDemand c.args.kind) c.args.text.now c.args.demand.now c.in-Err.fault c.rules_refusal.result before after c.say_remarked.result c.rules_refusal.ensures c.in-Err.ensures.value c.say_remarked.ensures

@@ -17,9 +17,9 @@ returns-in-Ok g c =
 pub returns-in-Err : goal.returns-in-Err
 returns-in-Err g c =
     let before : Told = g.S.Shelf.told c.args.shelf.now in
-    let after : Told = g.S.Shelf.told c.say_answer_to.new.shelf in
-    said-at-once (λ s o. DemandAnswer (RelaxedDemand c.args.kind) c.args.grammar c.args.text.now s o) c.demand_refusal.result before after c.say_answer_to.result
-    (demand-refused (RelaxedDemand c.args.kind) c.args.grammar c.args.text.now c.in-Err.fault c.demand_refusal.result c.in-Err.ensures.value c.demand_refusal.ensures) c.say_answer_to.ensures
+    let after : Told = g.S.Shelf.told c.say_remarked.new.shelf in
+    said-at-once (λ s o. DemandAnswer (RelaxedDemand c.args.kind) c.args.grammar c.args.text.now s o) c.demand_refusal.result before after c.say_remarked.result
+    (demand-refused (RelaxedDemand c.args.kind) c.args.grammar c.args.text.now c.in-Err.fault c.demand_refusal.result c.in-Err.ensures.value c.demand_refusal.ensures) c.say_remarked.ensures
 
 pub say_answer-requires : goal.say_answer-requires
 say_answer-requires g c = IfOk-map _ _ c.relaxed.result (λ a h. ends_at a.status 0 h.status_is (omega arith)) c.relaxed.ensures
