@@ -9,9 +9,10 @@ roster, a roster beside an old one, a report in place of a certificate) it draws
 shown into FOLDER (/tmp/roster-pages if none is given), and fails where an element of a chart lies outside its frame,
 a text is cut, two texts of a row or of an axis overlap, a letter of a chart is below 9 pixels, a chart or a table of a day of at most 48 periods
 scrolls on a window of 1,200 or 1,440 pixels, a derivation leaves its frame and can't be scrolled, a page asks the network for something, the
-console says a word, or the charts and costs of a printed day of at most 48 periods do not end on its first page. From
-the page of the call centre it makes docs/page.svg anew.
+console says a word, the foot lacks the sum of a text, or the charts and costs of a printed day of at most 48 periods
+do not end on its first page. From the page of the call centre it makes docs/page.svg anew.
 """
+import hashlib
 import pathlib
 import re
 import subprocess
@@ -139,7 +140,7 @@ def texts(folder, name):
 
 
 def drawn(folder, name, rules, demand, proof):
-    """The page of a day, as a file."""
+    """The page of a day, as a file, and the texts whose sums its foot lacks."""
     words = [rules, demand, proof]
     if name in LABELS:
         labels = folder / f"{name}.labels"
@@ -154,7 +155,9 @@ def drawn(folder, name, rules, demand, proof):
         raise SystemExit(f"{name}: status {said.returncode}: {said.stdout}{said.stderr}")
     page = folder / f"{name}.html"
     page.write_text(said.stdout)
-    return page
+    names = ["RULES", "DEMAND", "REPORT" if proof.read_text().startswith("report") else "PROOF", "LABELS", "OLD"]
+    sums = [f"{hashlib.sha256(path.read_bytes()).hexdigest()}  {word}\n" for path, word in zip(words, names)]
+    return page, [f"no sum {line}" for line in sums if line not in said.stdout]
 
 
 def console(said):
@@ -219,11 +222,11 @@ def main():
     wrong = 0
     for name in sys.argv[2:] or [*DAYS, *MADE]:
         paths = texts(folder, name)
-        page = drawn(folder, name, *paths)
+        page, lacking = drawn(folder, name, *paths)
         periods = int(re.search(r"^periods (\d+)", paths[0].read_text(), re.M).group(1))
         # The table of the shifts of 48 letters under a group's name of 50 is wider than the smaller window.
         small = "" if periods > 48 else "&lt;table" if name == "names" else None
-        said = (faults(page, "1200,1400", small) + faults(page, "1440,1400", "" if periods > 96 else None)
+        said = (lacking + faults(page, "1200,1400", small) + faults(page, "1440,1400", "" if periods > 96 else None)
                 + faults(page, "700,1400") + pictures(page, periods))
         if name == "call_centre":
             (TOP / "docs/page.svg").write_text(picture(page))

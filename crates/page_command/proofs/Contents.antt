@@ -9,9 +9,10 @@ use Rattle.page_command.specs.Compared.{IsCompared}
 use Rattle.page_command.specs.Draw.{IsContent, IsContentBeside}
 use Rattle.page_command.specs.declared.compare.Comparison.{Comparison}
 use Rattle.page_command.specs.declared.roster.ShownRoster.{ShownRoster}
+use Rattle.page_command.specs.declared.sums.Sums.{Sums}
 
 -- what is shown where a roster differs from an old one is what is shown beside it
-pub content_is : (d : Labels) (i : Instance) (r : ShownRoster) (old : Option (List Shift)) (c : Comparison) (result : Result Content Memory) → IsCompared i.grammar.periods old r.shifts c
-    → IfOk result (IsContentBeside d i r c) → IfOk result (IsContent d i r old)
-content_is d i r old c (Err e) compared h = tt
-content_is d i r old c (Ok p) compared h = record { comparison = c; compared = compared; beside = h }
+pub content_is : (s : Sums) (d : Labels) (i : Instance) (r : ShownRoster) (old : Option (List Shift)) (c : Comparison) (result : Result Content Memory) → IsCompared i.grammar.periods old r.shifts c
+    → IfOk result (IsContentBeside s d i r c) → IfOk result (IsContent s d i r old)
+content_is s d i r old c (Err e) compared h = tt
+content_is s d i r old c (Ok p) compared h = record { comparison = c; compared = compared; beside = h }

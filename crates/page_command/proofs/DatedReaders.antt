@@ -1,5 +1,5 @@
 -- Readers that fetch the texts of a calendar, one after another.
-use Rattle.std.proofs.Common.{◌≡◌, ℕ, List, [], ◌∷◌, Option, subst, ◌⊎◌, inl, inr}
+use Rattle.std.proofs.Common.{ℕ, List, [], ◌∷◌, Option, subst, inl, inr}
 use Rattle.shelf.specs.Shelf.{Texts, Told, front_to}
 use Rattle.answers.specs.Asked.{TextsAnswers}
 use Rattle.answers.specs.Fetch.{IsFetchTo}

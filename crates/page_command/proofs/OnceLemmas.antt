@@ -25,7 +25,7 @@ use Rattle.roster_value.specs.declared.stated_rosters.fault.RosterFault.{RosterF
 use Rattle.shelf.specs.Shelf.{Texts}
 use Rattle.answer_texts.specs.TreeText.{tree_text}
 use Rattle.answer_texts.specs.VerdictText.{verdict_text}
-use Rattle.answers.specs.Asked.{ProofAnswers, TextAnswers, AnswersThird, DemandAnswers, AnswersDemand, RulesAnswers, AnswersTexts, TextsAnswers}
+use Rattle.answers.specs.Asked.{ProofAnswers, TextAnswers, AnswersThird, DemandAnswers, TextsAnswers}
 use Rattle.answers.specs.Readings.{SaysProofFault}
 use Rattle.answers.specs.Asked as checks
 use Rattle.text_commands.specs.SameTexts.{AreTreesAtOnePrice}
@@ -38,7 +38,7 @@ use Rattle.page_labels.specs.declared.clock.Clock.{Clock}
 use Rattle.page_labels.specs.declared.labels.Labels.{Labels}
 use Rattle.page_command.specs.declared.kind.CalendarDay.{CalendarDay}
 use Rattle.text_commands.specs.what_if.Value.{SaysRosterFault}
-use Rattle.page_command.specs.Check.{AnswersBeside, AnswersLabelled, BesideAnswers, LabelAnswers, OldAnswers, RefusedLabels}
+use Rattle.page_command.specs.Check.{AnswersBeside, AnswersDemand, AnswersLabelled, AnswersRequest, AnswersShown, BesideAnswers, LabelAnswers, OldAnswers, RefusedLabels, Request, RequestAnswers, UnderAnswers, kind_by, requested}
 use Rattle.page_command.specs.Check as answers
 use Rattle.page_command.specs.Dated.{AnswersDated, CalendarAnswers, ClockAnswers, no_clock_line, events_on}
 use Rattle.page_command.specs.Dated as dated
@@ -52,11 +52,14 @@ use Rattle.page_command.specs.Report.{IsRead, LineAnswers, ReportAnswers, Roster
 use Rattle.page_command.specs.Report as report
 use Rattle.page_command.specs.Shown.{IsShown, Showing, certified, line_instead, stated}
 use Rattle.page_command.specs.Shown as showing
+use Rattle.page_command.specs.declared.kind.FirstWord.{FirstWord}
+use Rattle.page_command.specs.declared.kind.FirstWord.TheVariants as words
 use Rattle.page_command.specs.declared.kind.Kind.{Kind}
 use Rattle.page_command.specs.declared.kind.Kind.TheVariants.{Page, Table, Coverage, Calendar}
 use Rattle.page_command.specs.declared.roster.ShownRoster.{ShownRoster}
 use Rattle.page_command.specs.OnePage.{AreSameButTrees, AreTreesOfRows, ArePagesButTrees}
 use Rattle.page_command.specs.Rows.{AreDerived, IsDerived, rows_of, rules_of}
+use Rattle.page_command.specs.declared.sums.Sums.{Sums}
 use Rattle.page_command.specs.declared.compare.Comparison.{Comparison}
 use Rattle.page_command.proofs.OneComparison.{compared_once}
 
@@ -85,8 +88,8 @@ trees_of_rows i (r ∷ rs) (x ∷ xs) [] h k = absurd k
 trees_of_rows i (r ∷ rs) (x ∷ xs) (y ∷ ys) h k = (trees_of_row i r x y h.0 k.0, trees_of_rows i rs xs ys h.1 k.1)
 
 -- two pages of one roster
-pages_once : (d : Labels) (i : Instance) (r : ShownRoster) (old : Option (List Shift)) (a b : List ℕ) → IsPage d i r old a → IsPage d i r old b → ArePagesButTrees a b
-pages_once d i r old a b h k =
+pages_once : (x : Sums) (d : Labels) (i : Instance) (r : ShownRoster) (old : Option (List Shift)) (a b : List ℕ) → IsPage x d i r old a → IsPage x d i r old b → ArePagesButTrees a b
+pages_once x d i r old a b h k =
     let same : h.shows.comparison ≡ k.shows.comparison
     = compared_once i.grammar.periods old r.shifts h.shows.comparison k.shows.comparison h.shows.compared k.shows.compared in
     let left = h.shows.beside in
@@ -120,7 +123,7 @@ pages_once d i r old a b h k =
 
 -- two times what shows one roster
 shown_once : (n : Kind) (d : Labels) (i : Instance) (r : ShownRoster) (old : Option (List Shift)) (a b : List ℕ) → IsShown n d i r old a → IsShown n d i r old b → AreSameButTrees a b
-shown_once Page d i r old a b h k = inr (pages_once d i r old a b h k)
+shown_once (Page x) d i r old a b h k = inr (pages_once x d i r old a b h k)
 shown_once Table d i r old a b h k = inl (h ∙ sym k)
 shown_once Coverage d i r old a b h k = inl (h ∙ sym k)
 shown_once (Calendar x) d i r old a b h k = inl (h ∙ sym k)
@@ -264,38 +267,40 @@ module _ (A : TextAnswers) (once : IsOnce A) where
   demand_once held g text name s t a b (checks.DemandAnswers.refused xs h) (checks.DemandAnswers.refused ys k) =
       (refl, inl (h.line ∙ ap (λ (x : DemandFault). demand.fault_line x) (same_err (instance_of g text) h.fault k.fault h.reading k.reading) ∙ sym k.line))
 
-  demands_once : (held : Texts) (g : Grammar) (name proof_name : List ℕ) (s t : ℕ) (a b : List ℕ) → AnswersDemand A (Some held) g name proof_name s a → AnswersDemand A (Some held) g name proof_name t b → AreAlike s t a b
-  demands_once held g name proof_name s t a b h k =
-      demand_once held g k.text proof_name s t a b
-      (subst (λ (x : List ℕ). DemandAnswers A (Some held) g x proof_name s a) (same_text held name h.text k.text h.holds k.holds) h.answers) k.answers
+under_once : (n : Kind) (labels old : Option (List ℕ)) (i : Instance) (text : List ℕ) (s t : ℕ) (a b : List ℕ) → UnderAnswers n labels old i text s a → UnderAnswers n labels old i text t b → AreAlike s t a b
+under_once n None old i text s t a b h k = beside_once n nothing old i text s t a b h k
+under_once n (Some labels) old i text s t a b h k = labels_once n labels old i text s t a b h k
 
-  rules_once : (held : Texts) (text demand proof : List ℕ) (s t : ℕ) (a b : List ℕ) → RulesAnswers A (Some held) text demand proof s a → RulesAnswers A (Some held) text demand proof t b → AreAlike s t a b
-  rules_once held text demand proof s t a b (checks.RulesAnswers.accepted g x xs e h) (checks.RulesAnswers.accepted f y ys q k) =
-      demands_once held f demand proof s t a b
-      (subst (λ (z : Grammar). AnswersDemand A (Some held) z demand proof s a) (same_grammar text g f e.reading q.reading) h) k
-  rules_once held text demand proof s t a b (checks.RulesAnswers.accepted g x xs e h) (checks.RulesAnswers.refused ys k) =
-      absurd (no_fault text g k.fault e.reading k.reading)
-  rules_once held text demand proof s t a b (checks.RulesAnswers.refused xs h) (checks.RulesAnswers.accepted f y ys q k) =
-      absurd (no_fault text f h.fault q.reading h.reading)
-  rules_once held text demand proof s t a b (checks.RulesAnswers.refused xs h) (checks.RulesAnswers.refused ys k) = (refl, inl (faults_once text a b h k))
+-- what is asked by texts is answered once
+asked_once : (r : Request) (demand : List ℕ) → IsOnce (RequestAnswers r demand)
+asked_once r demand i text s t a b h k = under_once (kind_by r demand text) r.labels r.old i text s t a b h k
 
-  texts_once : (held : Texts) (rules demand proof : List ℕ) (s t : ℕ) (a b : List ℕ) → AnswersTexts A (Some held) rules demand proof s a → AnswersTexts A (Some held) rules demand proof t b → AreAlike s t a b
-  texts_once held rules demand proof s t a b h k =
-      rules_once held k.text demand proof s t a b
-      (subst (λ (x : List ℕ). RulesAnswers A (Some held) x demand proof s a) (same_text held rules h.text k.text h.holds k.holds) h.answers) k.answers
+demands_once : (r : Request) (held : Texts) (g : Grammar) (name proof_name : List ℕ) (s t : ℕ) (a b : List ℕ) → AnswersDemand r (Some held) g name proof_name s a → AnswersDemand r (Some held) g name proof_name t b → AreAlike s t a b
+demands_once r held g name proof_name s t a b h k =
+    demand_once (RequestAnswers r k.text) (asked_once r k.text) held g k.text proof_name s t a b
+    (subst (λ (x : List ℕ). DemandAnswers (RequestAnswers r x) (Some held) g x proof_name s a) (same_text held name h.text k.text h.holds k.holds) h.answers) k.answers
 
-pub page_once : (n : Kind) (held : Texts) (rules demand proof : List ℕ) (s t : ℕ) (a b : List ℕ) → AnswersTexts (RosterAnswers n nothing None) (Some held) rules demand proof s a
-    → AnswersTexts (RosterAnswers n nothing None) (Some held) rules demand proof t b → AreAlike s t a b
-page_once n held rules demand proof s t a b h k = texts_once (RosterAnswers n nothing None) (roster_once n nothing None) held rules demand proof s t a b h k
+request_once : (r : Request) (held : Texts) (demand proof : List ℕ) (s t : ℕ) (a b : List ℕ) → AnswersRequest r (Some held) demand proof s a → AnswersRequest r (Some held) demand proof t b → AreAlike s t a b
+request_once r held demand proof s t a b (answers.AnswersRequest.accepted g x xs e h) (answers.AnswersRequest.accepted f y ys q k) =
+    demands_once r held f demand proof s t a b
+    (subst (λ (z : Grammar). AnswersDemand r (Some held) z demand proof s a) (same_grammar r.rules g f e.reading q.reading) h) k
+request_once r held demand proof s t a b (answers.AnswersRequest.accepted g x xs e h) (answers.AnswersRequest.refused ys k) = absurd (no_fault r.rules g k.fault e.reading k.reading)
+request_once r held demand proof s t a b (answers.AnswersRequest.refused xs h) (answers.AnswersRequest.accepted f y ys q k) = absurd (no_fault r.rules f h.fault q.reading h.reading)
+request_once r held demand proof s t a b (answers.AnswersRequest.refused xs h) (answers.AnswersRequest.refused ys k) = (refl, inl (faults_once r.rules a b h k))
 
-pub labelled_once : (n : Kind) (held : Texts) (rules demand proof labels : List ℕ) (s t : ℕ) (a b : List ℕ) → AnswersLabelled n (Some held) rules demand proof labels s a
-    → AnswersLabelled n (Some held) rules demand proof labels t b → AreAlike s t a b
-labelled_once n held rules demand proof labels s t a b h k =
+pub page_once : (w : FirstWord) (held : Texts) (rules demand proof : List ℕ) (s t : ℕ) (a b : List ℕ) → AnswersShown w (Some held) rules demand proof s a → AnswersShown w (Some held) rules demand proof t b → AreAlike s t a b
+page_once w held rules demand proof s t a b h k =
+    let same = same_text held rules h.text k.text h.holds k.holds in
+    request_once (requested w k.text None None) held demand proof s t a b (subst (λ (x : List ℕ). AnswersRequest (requested w x None None) (Some held) demand proof s a) same h.answers) k.answers
+
+pub labelled_once : (w : FirstWord) (held : Texts) (rules demand proof labels : List ℕ) (s t : ℕ) (a b : List ℕ) → AnswersLabelled w (Some held) rules demand proof labels s a
+    → AnswersLabelled w (Some held) rules demand proof labels t b → AreAlike s t a b
+labelled_once w held rules demand proof labels s t a b h k =
     let rules_same = same_text held rules h.text k.text h.holds k.holds in
     let labels_same = same_text held labels h.answers.text k.answers.text h.answers.holds k.answers.holds in
-    let by_rules = subst (λ (x : List ℕ). RulesAnswers (LabelAnswers n h.answers.text None) (Some held) x demand proof s a) rules_same h.answers.answers in
-    let by_labels = subst (λ (x : List ℕ). RulesAnswers (LabelAnswers n x None) (Some held) k.text demand proof s a) labels_same by_rules in
-    rules_once (LabelAnswers n k.answers.text None) (labels_once n k.answers.text None) held k.text demand proof s t a b by_labels k.answers.answers
+    let by_rules = subst (λ (x : List ℕ). AnswersRequest (requested w x (Some h.answers.text) None) (Some held) demand proof s a) rules_same h.answers.answers in
+    let by_labels = subst (λ (x : List ℕ). AnswersRequest (requested w k.text (Some x) None) (Some held) demand proof s a) labels_same by_rules in
+    request_once (requested w k.text (Some k.answers.text) None) held demand proof s t a b by_labels k.answers.answers
 
 pub beside_texts_once : (held : Texts) (rules demand proof labels old : List ℕ) (s t : ℕ) (a b : List ℕ) → AnswersBeside (Some held) rules demand proof labels old s a
     → AnswersBeside (Some held) rules demand proof labels old t b → AreAlike s t a b
@@ -305,10 +310,10 @@ beside_texts_once held rules demand proof labels old s t a b h k =
     let rules_same = same_text held rules h.text k.text h.holds k.holds in
     let labels_same = same_text held labels h.answers.text k.answers.text h.answers.holds k.answers.holds in
     let old_same = same_text held old p.text q.text p.holds q.holds in
-    let by_rules = subst (λ (x : List ℕ). RulesAnswers (LabelAnswers Page h.answers.text (Some p.text)) (Some held) x demand proof s a) rules_same p.answers in
-    let by_labels = subst (λ (x : List ℕ). RulesAnswers (LabelAnswers Page x (Some p.text)) (Some held) k.text demand proof s a) labels_same by_rules in
-    let by_old = subst (λ (x : List ℕ). RulesAnswers (LabelAnswers Page k.answers.text (Some x)) (Some held) k.text demand proof s a) old_same by_labels in
-    rules_once (LabelAnswers Page k.answers.text (Some q.text)) (labels_once Page k.answers.text (Some q.text)) held k.text demand proof s t a b by_old q.answers
+    let by_rules = subst (λ (x : List ℕ). AnswersRequest (requested words.Page x (Some h.answers.text) (Some p.text)) (Some held) demand proof s a) rules_same p.answers in
+    let by_labels = subst (λ (x : List ℕ). AnswersRequest (requested words.Page k.text (Some x) (Some p.text)) (Some held) demand proof s a) labels_same by_rules in
+    let by_old = subst (λ (x : List ℕ). AnswersRequest (requested words.Page k.text (Some k.answers.text) (Some x)) (Some held) demand proof s a) old_same by_labels in
+    request_once (requested words.Page k.text (Some k.answers.text) (Some q.text)) held demand proof s t a b by_old q.answers
 
 -- what a labels text tells of the clock is one thing
 same_clock : (o : Option Clock) (c z : Clock) → o ≡ Some c → o ≡ Some z → c ≡ z

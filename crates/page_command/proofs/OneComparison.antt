@@ -1,8 +1,8 @@
 -- There is one least matching, and so one comparison.
-use Rattle.std.proofs.Common.{◌≡◌, ◌≢◌, ℕ, zero, suc, ◌<◌, ◌≤◌, ◌⊎◌, inl, inr, Bool, List, [], ◌∷◌, Option, None, Some, length, refl, sym, ap, subst, ◌∙◌, arith}
+use Rattle.std.proofs.Common.{◌≡◌, ℕ, zero, suc, ◌<◌, ◌≤◌, ◌⊎◌, inl, inr, Bool, List, [], ◌∷◌, Option, None, Some, length, refl, sym, ap, ◌∙◌, arith}
 use Rattle.roster_model.specs.declared.instance.Shift.{Shift}
 use Rattle.page_text.specs.declared.changes.Changes.{Changes}
-use Rattle.shift_figures.specs.roster_changes.Changes.{ComesBefore, IsLeastMatching, changed_periods, changed_shifts}
+use Rattle.shift_figures.specs.roster_changes.Changes.{IsLeastMatching, changed_periods, changed_shifts}
 use Rattle.shift_figures.specs.roster_changes.Matchings.{ComesFirst, IsMatching, choice, rank}
 use Rattle.page_command.specs.Compared.{IsBeside, IsCompared, matched_changes, roster_marks}
 use Rattle.page_command.specs.declared.compare.Comparison.{Comparison}

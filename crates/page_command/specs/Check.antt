@@ -2,6 +2,7 @@
 -- certificate is accepted or the roster of the report allowed, and where not the line of `check RULES DEMAND
 -- PROOF` or the lines of `value RULES DEMAND ROSTER`.
 use Rattle.std.specs.Prelude.{ℕ, ◌≡◌, List, Option, None, Some, Ok, Err}
+use Rattle.roster_model.specs.declared.grammar.Grammar.{Grammar}
 use Rattle.roster_model.specs.declared.instance.Instance.{Instance}
 use Rattle.roster_model.specs.declared.instance.Shift.{Shift}
 use Rattle.page_labels.specs.FaultLine.{fault_line}
@@ -10,18 +11,16 @@ use Rattle.page_labels.specs.LabelsOf.{labels_of}
 use Rattle.page_labels.specs.declared.fault.LabelFault.{LabelFault}
 use Rattle.page_labels.specs.declared.labels.Labels.{Labels}
 use Rattle.shelf.specs.Shelf.{Texts}
-use Rattle.answers.specs.Asked.{RulesAnswers}
+use Rattle.answers.specs.Asked.{DemandAnswers}
 use Rattle.answers.specs.Reader.{Holds}
-use Rattle.answers.specs.TextCommands.{TextCommand}
+use Rattle.answers.specs.Readings.{IsGrammarOf, SaysFault}
+use Rattle.page_command.specs.Kinds.{kind_for}
 use Rattle.page_command.specs.Old.{RefusedOld, old_of}
 use Rattle.page_command.specs.Report.{LineAnswers, RosterAnswers}
+use Rattle.page_command.specs.Sums.{sums_of}
+use Rattle.page_command.specs.declared.kind.FirstWord.{FirstWord}
+use Rattle.page_command.specs.declared.kind.FirstWord.TheVariants.{Page}
 use Rattle.page_command.specs.declared.kind.Kind.{Kind}
-use Rattle.page_command.specs.declared.kind.Kind.TheVariants.{Page}
-
--- the answers to the three texts under names, which are those under no labels
-abbrev pub AnswersShown : Kind → Option Texts → List ℕ → List ℕ → List ℕ → ℕ → List ℕ → Type 0
-AnswersShown k held name demand_name proof_name status output =
-    TextCommand (RosterAnswers k nothing None) held name demand_name proof_name status output
 
 -- status 5: the labels text is refused
 pub record SaysLabelFault (i : Instance) (text output : List ℕ) : Type 0 where
@@ -37,7 +36,8 @@ pub record RefusedLabels (labels : List ℕ) (i : Instance) (text : List ℕ) (s
   pub answers : LineAnswers i text line status output
 
 -- the answers to a proof text or a report under labels and beside an old text
-pub data OldAnswers (k : Kind) (d : Labels) (old : List ℕ) (i : Instance) (text : List ℕ) : ℕ → List ℕ → Type 0 where
+pub data OldAnswers (k : Kind) (d : Labels) (old : List ℕ) (i : Instance) (text : List ℕ) : ℕ → List ℕ
+    → Type 0 where
   read : (shifts : List Shift) (status : ℕ) (output : List ℕ) → old_of i old ≡ Ok shifts
       → RosterAnswers k d (Some shifts) i text status output → OldAnswers k d old i text status output
   old_refused : (status : ℕ) (output : List ℕ) → RefusedOld old i text status output
@@ -57,37 +57,82 @@ pub data LabelAnswers (k : Kind) (labels : List ℕ) (old : Option (List ℕ)) (
   labels_refused : (status : ℕ) (output : List ℕ) → RefusedLabels labels i text status output
       → LabelAnswers k labels old i text status output
 
--- the answers to a labels text and perhaps an old text, and then to a rules text and the demand and proof
--- texts under names
-abbrev pub AnswersUnder : Kind → List ℕ → Option (List ℕ) → List ℕ → Option Texts → List ℕ → List ℕ → ℕ → List ℕ
-    → Type 0
-AnswersUnder k labels old rules held demand_name proof_name status output =
-    RulesAnswers (LabelAnswers k labels old) held rules demand_name proof_name status output
+-- the same, where there may be no labels text
+abbrev pub UnderAnswers : Kind → Option (List ℕ) → Option (List ℕ) → Instance → List ℕ → ℕ → List ℕ → Type 0
+UnderAnswers k None old i text status output = BesideAnswers k nothing old i text status output
+UnderAnswers k (Some labels) old i text status output = LabelAnswers k labels old i text status output
 
--- the same without an old text, where the labels text stands under a name
-pub record AnswersLabelsText (k : Kind) (held : Option Texts) (rules demand_name proof_name labels_name : List ℕ)
+-- what is asked, and the texts that are read before the demand text
+pub record Request : Type 0 where
+  pub word : FirstWord
+  pub rules : List ℕ
+  pub labels : Option (List ℕ)
+  pub old : Option (List ℕ)
+
+-- as what the roster of a proof text or a report is shown: a page has the sums of all its texts
+abbrev pub kind_by : Request → List ℕ → List ℕ → Kind
+kind_by r demand text = kind_for r.word (sums_of r.rules demand text r.labels r.old)
+
+-- the answers to what is asked by a demand text, and to a proof text or a report
+abbrev pub RequestAnswers : Request → List ℕ → Instance → List ℕ → ℕ → List ℕ → Type 0
+RequestAnswers r demand i text status output =
+    UnderAnswers (kind_by r demand text) r.labels r.old i text status output
+
+-- the answers to what is asked by a grammar, and then to the demand and proof texts under names
+pub record AnswersDemand (r : Request) (held : Option Texts) (g : Grammar) (demand_name proof_name : List ℕ)
     (status : ℕ) (output : List ℕ) : Type 0 where
   pub text : List ℕ
-  pub holds : Holds held labels_name text
-  pub answers : AnswersUnder k text None rules held demand_name proof_name status output
+  pub holds : Holds held demand_name text
+  pub answers : DemandAnswers (RequestAnswers r text) held g text proof_name status output
 
--- the answers to four texts under names
-pub record AnswersLabelled (k : Kind) (held : Option Texts) (name demand_name proof_name labels_name : List ℕ)
-    (status : ℕ) (output : List ℕ) : Type 0 where
+-- the answers to what is asked, and then to the demand and proof texts under names
+pub data AnswersRequest (r : Request) (held : Option Texts) (demand_name proof_name : List ℕ) : ℕ → List ℕ
+    → Type 0 where
+  accepted : (g : Grammar) (status : ℕ) (output : List ℕ) → IsGrammarOf r.rules g
+      → AnswersDemand r held g demand_name proof_name status output
+      → AnswersRequest r held demand_name proof_name status output
+  refused : (output : List ℕ) → SaysFault r.rules output
+      → AnswersRequest r held demand_name proof_name 3 output
+
+-- a first word, a rules text, and a labels text and an old text where there is one
+abbrev pub requested : FirstWord → List ℕ → Option (List ℕ) → Option (List ℕ) → Request
+requested w rules labels old = record { word = w; rules = rules; labels = labels; old = old }
+
+-- the answers to the three texts under names
+pub record AnswersShown (w : FirstWord) (held : Option Texts) (name demand_name proof_name : List ℕ)
+    (status : ℕ)
+    (output : List ℕ) : Type 0 where
   pub text : List ℕ
   pub holds : Holds held name text
-  pub answers : AnswersLabelsText k held text demand_name proof_name labels_name status output
+  pub answers : AnswersRequest (requested w text None None) held demand_name proof_name status output
+
+-- the answers to a rules text, a labels text under a name, and the demand and proof texts under names
+pub record AnswersLabelsText (w : FirstWord) (held : Option Texts)
+    (rules demand_name proof_name labels_name : List ℕ) (status : ℕ) (output : List ℕ) : Type 0 where
+  pub text : List ℕ
+  pub holds : Holds held labels_name text
+  pub answers : AnswersRequest (requested w rules (Some text) None) held demand_name proof_name status output
+
+-- the answers to four texts under names
+pub record AnswersLabelled (w : FirstWord) (held : Option Texts)
+    (name demand_name proof_name labels_name : List ℕ) (status : ℕ) (output : List ℕ) : Type 0 where
+  pub text : List ℕ
+  pub holds : Holds held name text
+  pub answers : AnswersLabelsText w held text demand_name proof_name labels_name status output
 
 -- the answers to a rules text and a labels text, and then to an old text and the demand and proof texts under
 -- names
-pub record AnswersOldText (held : Option Texts) (rules labels demand_name proof_name old_name : List ℕ) (status : ℕ)
+pub record AnswersOldText (held : Option Texts) (rules labels demand_name proof_name old_name : List ℕ)
+    (status : ℕ)
     (output : List ℕ) : Type 0 where
   pub text : List ℕ
   pub holds : Holds held old_name text
-  pub answers : AnswersUnder Page labels (Some text) rules held demand_name proof_name status output
+  pub answers : AnswersRequest (requested Page rules (Some labels) (Some text)) held demand_name proof_name
+      status output
 
 -- the same, where the labels text stands under a name
-pub record AnswersBesideRules (held : Option Texts) (rules demand_name proof_name labels_name old_name : List ℕ)
+pub record AnswersBesideRules (held : Option Texts)
+    (rules demand_name proof_name labels_name old_name : List ℕ)
     (status : ℕ) (output : List ℕ) : Type 0 where
   pub text : List ℕ
   pub holds : Holds held labels_name text

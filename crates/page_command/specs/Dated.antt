@@ -23,7 +23,8 @@ abbrev pub events_on : CalendarDay → Clock → DayEvents
 events_on day clock = record { setting = record { date = day.date; clock = clock }; shift = day.shift }
 
 -- the answers to a proof text or a report under labels that tell this clock or none
-pub data ClockAnswers (day : CalendarDay) (d : Labels) (i : Instance) (text : List ℕ) : ℕ → List ℕ → Type 0 where
+pub data ClockAnswers (day : CalendarDay) (d : Labels) (i : Instance) (text : List ℕ) : ℕ → List ℕ
+    → Type 0 where
   answered : (c : Clock) (status : ℕ) (output : List ℕ) → d.clock ≡ Some c
       → RosterAnswers (Calendar (events_on day c)) d None i text status output
       → ClockAnswers day d i text status output
@@ -40,21 +41,24 @@ pub data CalendarAnswers (day : CalendarDay) (labels : List ℕ) (i : Instance) 
       → CalendarAnswers day labels i text status output
 
 -- the answers to a day, a rules text and a labels text, and then to the demand and proof texts under names
-pub record AnswersDatedTexts (day : CalendarDay) (held : Option Texts) (rules labels demand_name proof_name : List ℕ)
+pub record AnswersDatedTexts (day : CalendarDay) (held : Option Texts)
+    (rules labels demand_name proof_name : List ℕ)
     (status : ℕ) (output : List ℕ) : Type 0 where
   pub text : List ℕ
   pub holds : Holds held demand_name text
   pub answers : TextsAnswers (CalendarAnswers day labels) held rules text proof_name status output
 
 -- the same, where the labels text stands under a name
-pub record AnswersDatedLabels (day : CalendarDay) (held : Option Texts) (rules demand_name proof_name labels_name : List ℕ)
+pub record AnswersDatedLabels (day : CalendarDay) (held : Option Texts)
+    (rules demand_name proof_name labels_name : List ℕ)
     (status : ℕ) (output : List ℕ) : Type 0 where
   pub text : List ℕ
   pub holds : Holds held labels_name text
   pub answers : AnswersDatedTexts day held rules text demand_name proof_name status output
 
 -- the answers to a day and four texts under names
-pub record AnswersDated (day : CalendarDay) (held : Option Texts) (name demand_name proof_name labels_name : List ℕ)
+pub record AnswersDated (day : CalendarDay) (held : Option Texts)
+    (name demand_name proof_name labels_name : List ℕ)
     (status : ℕ) (output : List ℕ) : Type 0 where
   pub text : List ℕ
   pub holds : Holds held name text

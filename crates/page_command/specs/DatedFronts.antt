@@ -1,11 +1,10 @@
 -- A text and its first bytes, up to one above its limit, are answered alike by a calendar.
-use Rattle.std.proofs.Common.{◌≡◌, ◌<◌, ◌∙◌, ℕ, List, None, length, sym, subst, ◌⊎◌, inl, inr}
+use Rattle.std.proofs.Common.{◌<◌, ◌∙◌, ℕ, List, None, length, sym, subst, inl, inr}
 use Rattle.roster_model.specs.declared.instance.Instance.{Instance}
 use Rattle.page_labels.specs.declared.labels.Labels.{Labels}
 use Rattle.shelf.specs.Shelf.{front_to}
 use Rattle.answers.specs.Fronts.{front-cases}
 use Rattle.page_command.specs.declared.kind.CalendarDay.{CalendarDay}
-use Rattle.page_command.specs.Check.{RefusedLabels}
 use Rattle.page_command.specs.Dated.{CalendarAnswers, ClockAnswers, no_clock_line, events_on}
 use Rattle.page_command.specs.Dated as dated
 use Rattle.page_command.specs.Fronts.{labels-alike, labels-refused-whole, line-whole, long-roster}
@@ -13,7 +12,8 @@ use Rattle.page_command.specs.declared.kind.Kind.TheVariants.{Calendar}
 
 -- a third text over the limit is refused
 long-clock : (day : CalendarDay) (d : Labels) (i : Instance) (text : List ℕ) (s : ℕ) (output : List ℕ)
-    → 1073741824 < length (front_to 1073741824 text) → ClockAnswers day d i (front_to 1073741824 text) s output
+    → 1073741824 < length (front_to 1073741824 text)
+    → ClockAnswers day d i (front_to 1073741824 text) s output
     → ClockAnswers day d i text s output
 long-clock day d i text s output lt (dated.ClockAnswers.answered c t x e a) =
     dated.ClockAnswers.answered c t x e

@@ -24,6 +24,8 @@ use Rattle.page_command.specs.Compared.{IsCompared}
 use Rattle.page_command.specs.declared.compare.Comparison.{Comparison}
 use Rattle.page_command.specs.declared.roster.ShownRoster.{ShownRoster}
 use Rattle.page_command.specs.Rows.{AreDerived, rows_of}
+use Rattle.page_command.specs.Sums.{read_texts}
+use Rattle.page_command.specs.declared.sums.Sums.{Sums}
 
 -- a roster that can be shown: sound shifts that are allowed and have this cost, or none
 pub record IsSoundShown (i : Instance) (r : ShownRoster) : Type 0 where
@@ -59,8 +61,10 @@ words_of d cs = map (code_words d.codes) (places (length cs))
 abbrev pub money_of : Labels → Money
 money_of d = record { words = d.money; decimals = decimals_of d }
 
--- what the page shows of a roster under labels, where this differs from an old roster
-pub record IsContentBeside (d : Labels) (i : Instance) (r : ShownRoster) (c : Comparison) (p : Content)
+-- what the page shows of a roster under labels, where this differs from an old roster and the page is made
+-- from texts with these sums
+pub record IsContentBeside (s : Sums) (d : Labels) (i : Instance) (r : ShownRoster) (c : Comparison)
+    (p : Content)
     : Type 0 where
   pub title : p.title ≡ d.title
   pub words : p.words ≡ words_of d i.grammar.codes
@@ -74,18 +78,20 @@ pub record IsContentBeside (d : Labels) (i : Instance) (r : ShownRoster) (c : Co
   pub derivations : AreDerived i p.rows p.derivations
   pub columns : p.columns ≡ columns_of i r r.cost
   pub tables : p.tables ≡ tables_of i d r.shifts (columns_of i r r.cost)
-  pub read : p.read ≡ []
+  pub read : p.read ≡ read_texts r.is_stated s
 
 -- what the page shows of a roster under labels, beside an old roster where there is one
-pub record IsContent (d : Labels) (i : Instance) (r : ShownRoster) (old : Option (List Shift)) (p : Content)
+pub record IsContent (s : Sums) (d : Labels) (i : Instance) (r : ShownRoster) (old : Option (List Shift))
+    (p : Content)
     : Type 0 where
   pub comparison : Comparison
   pub compared : IsCompared i.grammar.periods old r.shifts comparison
-  pub beside : IsContentBeside d i r comparison p
+  pub beside : IsContentBeside s d i r comparison p
 
 -- the page of a roster under labels, beside an old roster where there is one
-pub record IsPage (d : Labels) (i : Instance) (r : ShownRoster) (old : Option (List Shift)) (output : List ℕ)
+pub record IsPage (s : Sums) (d : Labels) (i : Instance) (r : ShownRoster) (old : Option (List Shift))
+    (output : List ℕ)
     : Type 0 where
   pub content : Content
-  pub shows : IsContent d i r old content
+  pub shows : IsContent s d i r old content
   pub text : output ≡ written (page i.grammar.periods i.grammar.codes content)

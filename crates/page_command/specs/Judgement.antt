@@ -15,9 +15,10 @@ use Rattle.text_commands.specs.Check.{SaysNo}
 use Rattle.page_command.specs.Shown.{Showing, certified, stated}
 use Rattle.page_command.specs.declared.kind.Kind.{Kind}
 
--- the certificate is accepted, what it states is true, and its roster is shown under labels, beside an old one where
--- there is one, or a line is said in its place
-pub record SaysShown (k : Kind) (d : Labels) (old : Option (List Shift)) (i : Instance) (c : Cert) (status : ℕ)
+-- the certificate is accepted, what it states is true, and its roster is shown under labels, beside an old
+-- one where there is one, or a line is said in its place
+pub record SaysShown (k : Kind) (d : Labels) (old : Option (List Shift)) (i : Instance) (c : Cert)
+    (status : ℕ)
     (output : List ℕ) : Type 0 where
   pub accepted : Accepts i c
   pub trusted : YesIsRight i c
@@ -26,11 +27,12 @@ pub record SaysShown (k : Kind) (d : Labels) (old : Option (List Shift)) (i : In
 -- the answers for a certificate
 pub data Judgement (k : Kind) (d : Labels) (old : Option (List Shift)) (i : Instance) (c : Cert) :
     ℕ → List ℕ → Type 0 where
-  yes : (status : ℕ) (output : List ℕ) → SaysShown k d old i c status output → Judgement k d old i c status output
+  yes : (status : ℕ) (output : List ℕ) → SaysShown k d old i c status output
+      → Judgement k d old i c status output
   no : (output : List ℕ) → SaysNo i c output → Judgement k d old i c 1 output
 
--- the stated roster is allowed, and it is shown at its prices, of which no bound is proved, or a line is said in its
--- place
+-- the stated roster is allowed, and it is shown at its prices, of which no bound is proved, or a line is said
+-- in its place
 pub record SaysValued (k : Kind) (d : Labels) (old : Option (List Shift)) (i : Instance) (shifts : List Shift)
     (status : ℕ) (output : List ℕ) : Type 0 where
   pub value : Valued
@@ -39,7 +41,8 @@ pub record SaysValued (k : Kind) (d : Labels) (old : Option (List Shift)) (i : I
   pub shown : Showing k d i (stated value) old status output
 
 -- the answers for a stated roster; where it is not allowed, those of `value`
-pub data StatedJudgement (k : Kind) (d : Labels) (old : Option (List Shift)) (i : Instance) (shifts : List Shift) :
+pub data StatedJudgement (k : Kind) (d : Labels) (old : Option (List Shift)) (i : Instance)
+    (shifts : List Shift) :
     ℕ → List ℕ → Type 0 where
   allowed : (status : ℕ) (output : List ℕ) → SaysValued k d old i shifts status output
       → StatedJudgement k d old i shifts status output

@@ -1,3 +1,5 @@
+pub mod Sums
+pub mod Kinds
 pub mod Compared
 pub mod Rows
 pub mod Draw
@@ -6,6 +8,7 @@ pub mod Judgement
 pub mod Report
 pub mod Old
 pub mod Check
+pub mod Requests
 pub mod Dated
 pub mod Statuses
 pub mod Fronts

@@ -65,7 +65,8 @@ pub record SaysOldFault (i : Instance) (text output : List ℕ) : Type 0 where
   pub line : output ≡ fault_line fault
 
 -- the answers to a proof text or a report where the old text is refused
-pub record RefusedOld (old : List ℕ) (i : Instance) (text : List ℕ) (status : ℕ) (output : List ℕ) : Type 0 where
+pub record RefusedOld (old : List ℕ) (i : Instance) (text : List ℕ) (status : ℕ) (output : List ℕ)
+    : Type 0 where
   pub line : List ℕ
   pub fault : SaysOldFault i old line
   pub answers : LineAnswers i text line status output

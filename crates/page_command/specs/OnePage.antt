@@ -9,7 +9,7 @@ use Rattle.shelf.specs.Shelf.{Texts}
 use Rattle.text_commands.specs.SameTexts.{AreTreesAtOnePrice}
 use Rattle.page_command.specs.Check.{AnswersBeside, AnswersLabelled, AnswersShown}
 use Rattle.page_command.specs.Dated.{AnswersDated}
-use Rattle.page_command.specs.declared.kind.Kind.{Kind}
+use Rattle.page_command.specs.declared.kind.FirstWord.{FirstWord}
 use Rattle.page_command.specs.declared.kind.CalendarDay.{CalendarDay}
 
 -- for each row two derivations of its word, at one price
@@ -52,16 +52,16 @@ AreSameButTrees a b = (a ≡ b) ⊎ ArePagesButTrees a b
 -- too, but for the trees of the derivations of a page
 abbrev pub HaveOnePage : Type 0
 HaveOnePage =
-    (k : Kind) (held : Texts) (rules demand proof : List ℕ) (s t : ℕ) (a b : List ℕ)
-    → AnswersShown k (Some held) rules demand proof s a → AnswersShown k (Some held) rules demand proof t b
+    (w : FirstWord) (held : Texts) (rules demand proof : List ℕ) (s t : ℕ) (a b : List ℕ)
+    → AnswersShown w (Some held) rules demand proof s a → AnswersShown w (Some held) rules demand proof t b
     → (s ≡ t) × AreSameButTrees a b
 
 -- the same of two answers to the same four texts
 abbrev pub HaveOneLabelledPage : Type 0
 HaveOneLabelledPage =
-    (k : Kind) (held : Texts) (rules demand proof labels : List ℕ) (s t : ℕ) (a b : List ℕ)
-    → AnswersLabelled k (Some held) rules demand proof labels s a
-    → AnswersLabelled k (Some held) rules demand proof labels t b
+    (w : FirstWord) (held : Texts) (rules demand proof labels : List ℕ) (s t : ℕ) (a b : List ℕ)
+    → AnswersLabelled w (Some held) rules demand proof labels s a
+    → AnswersLabelled w (Some held) rules demand proof labels t b
     → (s ≡ t) × AreSameButTrees a b
 
 -- the same of two answers to the same five texts

@@ -20,8 +20,8 @@ use Rattle.page_command.specs.declared.compare.Comparison.{Comparison}
 abbrev pub is_same : Shift → Shift → Bool
 is_same a b = nat_eq a.group b.group && bytes_eq a.word b.word
 
--- there are so many shifts that equal ones have one row, none is named, and there is no old roster beside which each is
--- marked
+-- there are so many shifts that equal ones have one row, none is named, and there is no old roster beside
+-- which each is marked
 abbrev pub are_many : Labels → Comparison → List Shift → Bool
 are_many d c shifts = is_none c.changes && not (nat_lt 0 (length d.shifts)) && nat_lt 40 (length shifts)
 
@@ -58,8 +58,8 @@ abbrev pub rows_at : Instance → Labels → Comparison → List Shift → ℕ �
 rows_at i d c shifts k =
     elim (slice_get shifts k) [ None ↦ [] | Some s ↦ own_row i d c shifts k s ]
 
--- a row for each shift, or, where there are more than 40, none has a name and there is no old roster, one for all that
--- are equal: by group, first period of work, last period of work and number
+-- a row for each shift, or, where there are more than 40, none has a name and there is no old roster, one for
+-- all that are equal: by group, first period of work, last period of work and number
 abbrev pub rows_of : Instance → Labels → Comparison → List Shift → List Row
 rows_of i d c shifts = flat_map (rows_at i d c shifts) (drawn_order i.grammar.codes shifts)
 

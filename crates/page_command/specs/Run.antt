@@ -9,8 +9,8 @@ use Rattle.page_command.specs.declared.kind.CalendarDay.{CalendarDay}
 use Rattle.page_command.specs.Check.{AnswersBeside, AnswersLabelled, AnswersShown}
 use Rattle.page_command.specs.Dated.{AnswersDated}
 use Rattle.answers.specs.Reader.{IsReader}
-use Rattle.page_command.specs.declared.kind.Kind.{Kind}
-use Rattle.page_command.specs.declared.kind.Kind.TheVariants.{Page, Table, Coverage}
+use Rattle.page_command.specs.declared.kind.FirstWord.{FirstWord}
+use Rattle.page_command.specs.declared.kind.FirstWord.TheVariants.{Page, Table, Coverage}
 
 -- what is said of other words
 abbrev pub no_form_line : List ℕ
@@ -25,31 +25,31 @@ pub record AnswersNoForm (status : ℕ) (output : List ℕ) : Type 0 where
 
 -- what words ask for
 pub data Form : Type 0 where
-  shown : Kind → List ℕ → List ℕ → List ℕ → Form
-  labelled : Kind → List ℕ → List ℕ → List ℕ → List ℕ → Form
+  shown : FirstWord → List ℕ → List ℕ → List ℕ → Form
+  labelled : FirstWord → List ℕ → List ℕ → List ℕ → List ℕ → Form
   beside : List ℕ → List ℕ → List ℕ → List ℕ → List ℕ → Form
   dated : CalendarDay → List ℕ → List ℕ → List ℕ → List ℕ → Form
   none : Form
 
 -- what the first word asks for
-unfoldable pub kind_of : List ℕ → Option Kind
-kind_of w =
+unfoldable pub first_word : List ℕ → Option FirstWord
+first_word w =
     if bytes_eq w (codes "page") then Some Page
     else (if bytes_eq w (codes "table") then Some Table
     else (if bytes_eq w (codes "coverage") then Some Coverage else None))
 
--- a kind and the names of a rules text, a demand text and a proof text
-abbrev pub shown_form : Option Kind → List ℕ → List ℕ → List ℕ → Form
+-- what the first word asks for and the names of a rules text, a demand text and a proof text
+abbrev pub shown_form : Option FirstWord → List ℕ → List ℕ → List ℕ → Form
 shown_form None rules demand proof = none
-shown_form (Some k) rules demand proof = shown k rules demand proof
+shown_form (Some x) rules demand proof = shown x rules demand proof
 
 -- the same, and the name of a labels text
-abbrev pub labelled_form : Option Kind → List ℕ → List ℕ → List ℕ → List ℕ → Form
+abbrev pub labelled_form : Option FirstWord → List ℕ → List ℕ → List ℕ → List ℕ → Form
 labelled_form None rules demand proof labels = none
-labelled_form (Some k) rules demand proof labels = labelled k rules demand proof labels
+labelled_form (Some x) rules demand proof labels = labelled x rules demand proof labels
 
--- a day, where there is one, perhaps the number of a shift, and the names of a rules text, a demand text, a proof
--- text and a labels text
+-- a day, where there is one, perhaps the number of a shift, and the names of a rules text, a demand text, a
+-- proof text and a labels text
 abbrev pub form_on : Option Date → Option ℕ → List ℕ → List ℕ → List ℕ → List ℕ → Form
 form_on None shift rules demand proof labels = none
 form_on (Some date) shift rules demand proof labels =
@@ -59,7 +59,8 @@ form_on (Some date) shift rules demand proof labels =
 unfoldable pub last_form : List ℕ → List ℕ → List ℕ → List ℕ → List ℕ → List ℕ → Form
 last_form w rules demand proof labels last =
     if bytes_eq w (codes "page") then beside rules demand proof labels last
-    else (if bytes_eq w (codes "calendar") then form_on (date_of last) None rules demand proof labels else none)
+    else (if bytes_eq w (codes "calendar") then form_on (date_of last) None rules demand proof labels
+    else none)
 
 abbrev pub number_or_none : Result ℕ (Unit {0}) → Option ℕ
 number_or_none (Ok n) = Some n
@@ -82,21 +83,23 @@ shift_form w rules demand proof labels day number =
 
 -- what words ask for, by their number
 abbrev pub form_of : List (List ℕ) → Form
-form_of (w ∷ rules ∷ demand ∷ proof ∷ []) = shown_form (kind_of w) rules demand proof
-form_of (w ∷ rules ∷ demand ∷ proof ∷ labels ∷ []) = labelled_form (kind_of w) rules demand proof labels
+form_of (w ∷ rules ∷ demand ∷ proof ∷ []) = shown_form (first_word w) rules demand proof
+form_of (w ∷ rules ∷ demand ∷ proof ∷ labels ∷ []) = labelled_form (first_word w) rules demand proof labels
 form_of (w ∷ rules ∷ demand ∷ proof ∷ labels ∷ last ∷ []) = last_form w rules demand proof labels last
-form_of (w ∷ rules ∷ demand ∷ proof ∷ labels ∷ day ∷ number ∷ []) = shift_form w rules demand proof labels day number
+form_of (w ∷ rules ∷ demand ∷ proof ∷ labels ∷ day ∷ number ∷ []) =
+    shift_form w rules demand proof labels day number
 form_of _ = none
 
 -- what is done for a form: with labels their text is fetched behind the rules text, and then an old text
 abbrev pub DoesForm : Form → Told → Told → ℕ → Type 0
-DoesForm (shown k rules demand proof) before after status =
-    IsReader (AnswersShown k before.held rules demand proof) (rules ∷ demand ∷ proof ∷ []) before after status
-DoesForm (labelled k rules demand proof labels) before after status =
-    IsReader (AnswersLabelled k before.held rules demand proof labels) (rules ∷ labels ∷ demand ∷ proof ∷ [])
+DoesForm (shown w rules demand proof) before after status =
+    IsReader (AnswersShown w before.held rules demand proof) (rules ∷ demand ∷ proof ∷ []) before after status
+DoesForm (labelled w rules demand proof labels) before after status =
+    IsReader (AnswersLabelled w before.held rules demand proof labels) (rules ∷ labels ∷ demand ∷ proof ∷ [])
     before after status
 DoesForm (beside rules demand proof labels old) before after status =
-    IsReader (AnswersBeside before.held rules demand proof labels old) (rules ∷ labels ∷ old ∷ demand ∷ proof ∷ [])
+    IsReader (AnswersBeside before.held rules demand proof labels old)
+    (rules ∷ labels ∷ old ∷ demand ∷ proof ∷ [])
     before after status
 DoesForm (dated day rules demand proof labels) before after status =
     IsReader (AnswersDated day before.held rules demand proof labels) (rules ∷ labels ∷ demand ∷ proof ∷ [])

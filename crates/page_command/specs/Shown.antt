@@ -24,10 +24,10 @@ certified c = record { shifts = c.shifts; cost = c.cost; bound = c.bound; is_sta
 abbrev pub stated : Valued → ShownRoster
 stated v = record { shifts = v.shifts; cost = Some v.cost; bound = Some 0; is_stated = true }
 
--- the page of a roster under labels, beside an old roster where there is one, or the table of it, of its coverage or
--- the calendar of it
+-- the page of a roster under labels, made from texts with these sums, beside an old roster where there is
+-- one, or the table of it, of its coverage or the calendar of it
 abbrev pub IsShown : Kind → Labels → Instance → ShownRoster → Option (List Shift) → List ℕ → Type 0
-IsShown Page d i r old output = IsPage d i r old output
+IsShown (Page s) d i r old output = IsPage s d i r old output
 IsShown Table d i r old output = output ≡ table_of i d r.shifts
 IsShown Coverage d i r old output = output ≡ coverage_of i d (columns_of i r r.cost)
 IsShown (Calendar x) d i r old output = output ≡ calendar_of i d x.setting x.shift r.shifts
@@ -44,7 +44,7 @@ is_beyond (Some number) shifts = nat_lt (length shifts) number
 
 -- a calendar is to have the events of a shift that there is not
 abbrev pub lacks_shift : Kind → List Shift → Bool
-lacks_shift Page shifts = false
+lacks_shift (Page s) shifts = false
 lacks_shift Table shifts = false
 lacks_shift Coverage shifts = false
 lacks_shift (Calendar x) shifts = is_beyond x.shift shifts
@@ -62,8 +62,10 @@ line_of None k shifts = if lacks_shift k shifts then Some no_shift_line else Non
 abbrev pub line_instead : Kind → Labels → ShownRoster → Option (List ℕ)
 line_instead k d r = line_of (name_fault d r r.cost) k r.shifts
 
--- the answers with a roster that can be shown: status 0 and what shows it, or status 5 and a line in its place
+-- the answers with a roster that can be shown: status 0 and what shows it, or status 5 and a line in its
+-- place
 pub data Showing (k : Kind) (d : Labels) (i : Instance) (r : ShownRoster) (old : Option (List Shift)) :
     ℕ → List ℕ → Type 0 where
-  shown : (output : List ℕ) → line_instead k d r ≡ None → IsShown k d i r old output → Showing k d i r old 0 output
+  shown : (output : List ℕ) → line_instead k d r ≡ None → IsShown k d i r old output
+      → Showing k d i r old 0 output
   line_said : (output : List ℕ) → line_instead k d r ≡ Some output → Showing k d i r old 5 output

@@ -38,8 +38,8 @@ fn drawn_answer(
     Ok(Answer { status: 0, output })
 }
 
-/// Says what shows a roster under labels, beside an old one where there is one, or why a name of the labels or the
-/// number of a shift keeps it from being shown.
+/// Says what shows a roster under labels, beside an old one where there is one, or why a name of the labels
+/// or the number of a shift keeps it from being shown.
 ///
 /// # Errors
 ///

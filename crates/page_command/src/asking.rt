@@ -3,12 +3,18 @@
 ghost use Rattle.std.specs.Prelude.{[], ◌∷◌};
 ghost use Rattle.roster_model.specs.Sound.{IsPlain, IsSound};
 ghost use Rattle.roster_model.specs.SoundInstance.{IsSoundInstance};
-ghost use Rattle.answers.specs.Asked.{AnswersDemand, AnswersThird, DemandAnswers, RulesAnswers, TextsAnswers};
+ghost use Rattle.answers.specs.Asked.{AnswersThird, DemandAnswers, TextsAnswers};
 ghost use Rattle.answers.specs.Reader.{IsReader};
+ghost use Rattle.page_command.specs.Check.{AnswersDemand, AnswersRequest};
+ghost use Rattle.page_command.specs.Requests.{request_of};
 
 use crate::events_note::note_events;
-use answers::{MOST_DEMAND, Question, demand_refusal, fetched, rules_refusal, say_answer_to};
+use crate::request::{Drawing, Request};
+use answers::{
+    MOST_DEMAND, Question, demand_refusal, fetched, rules_refusal, say_answer_to, say_remarked,
+};
 use demand_text::read_demand;
+use fault_notes::{demand_note, rules_note};
 use roster_model::{Grammar, Instance};
 use rules_text::read_rules;
 use shelf::Shelf;
@@ -20,7 +26,7 @@ fn ask_third<S: Shelf, Q: Question>(
     shelf: &mut S,
     instance: &Instance,
     third: &str,
-    labels: &[u8],
+    labels: Option<&[u8]>,
     question: &Q,
 ) -> u8
     requires { IsSoundInstance instance.now }
@@ -45,7 +51,7 @@ fn ask_demand_text<S: Shelf, Q: Question>(
     grammar: Grammar,
     text: &[u8],
     third: &str,
-    labels: &[u8],
+    labels: Option<&[u8]>,
     question: &Q,
 ) -> u8
     requires sound { IsSound grammar }
@@ -53,22 +59,26 @@ fn ask_demand_text<S: Shelf, Q: Question>(
     ensures { IsReader (DemandAnswers (Q.answers question.now) (S.told shelf.old).held
         grammar text.now third.now) (third.now ∷ []) (S.told shelf.old) (S.told shelf.new) result }
 {
+    let periods = grammar.periods;
     match read_demand(alloc, grammar, text) {
         Ok(instance) => ask_third(alloc, shelf, &instance, third, labels, question),
-        Err(fault) => say_answer_to(shelf, text, demand_refusal(alloc, fault)),
+        Err(fault) => {
+            let note = demand_note(alloc, text, periods, fault);
+            say_remarked(shelf, text, demand_refusal(alloc, fault), note)
+        }
     }
 }
 
-/// Asks something of the third text under a name by a rules text and a demand text, and says the answer, or why a text
-/// is refused; notes what the events of its shifts have under a labels text that a reader may not expect. The texts are
-/// read in this order.
+/// Asks something of the third text under a name by a rules text and a demand text, and says the answer, or
+/// why a text is refused; notes what the events of its shifts have under a labels text that a reader may not
+/// expect. The texts are read in this order.
 pub(crate) fn ask_texts<S: Shelf, Q: Question>(
     alloc: Global,
     shelf: &mut S,
     rules: &[u8],
     demand: &[u8],
     third: &str,
-    labels: &[u8],
+    labels: Option<&[u8]>,
     question: &Q,
 ) -> u8
     ensures { IsReader (TextsAnswers (Q.answers question.now) (S.told shelf.old).held
@@ -76,51 +86,57 @@ pub(crate) fn ask_texts<S: Shelf, Q: Question>(
 {
     match read_rules(alloc, rules) {
         Ok(grammar) => ask_demand_text(alloc, shelf, grammar, demand, third, labels, question),
-        Err(fault) => say_answer_to(shelf, rules, rules_refusal(alloc, fault)),
+        Err(fault) => {
+            let note = rules_note(alloc, rules, fault);
+            say_remarked(shelf, rules, rules_refusal(alloc, fault), note)
+        }
     }
 }
 
-// Asks something of the third text under a name by the demand text under another.
-fn ask_demand<S: Shelf, Q: Question>(
+// Asks for what shows the roster of the third text under a name by the demand text under another.
+fn ask_demand<S: Shelf>(
     alloc: Global,
     shelf: &mut S,
     grammar: Grammar,
+    request: Request<'_, '_, '_>,
     demand: &str,
     third: &str,
-    labels: &[u8],
-    question: &Q,
 ) -> u8
     requires sound { IsSound grammar }
     requires plain { IsPlain grammar }
-    ensures { IsReader (AnswersDemand (Q.answers question.now) (S.told shelf.old).held
+    ensures { IsReader (AnswersDemand (request_of request.entry) (S.told shelf.old).held
         grammar demand.now third.now)
         (demand.now ∷ third.now ∷ []) (S.told shelf.old) (S.told shelf.new) result }
 {
     match fetched(alloc, shelf, demand, MOST_DEMAND) {
         Ok(text) => {
-            let text = text.as_slice();
-            ask_demand_text(alloc, shelf, grammar, text, third, labels, question)
+            let demand = text.as_slice();
+            let labels = request.labels;
+            let drawing = Drawing { request, demand };
+            ask_demand_text(alloc, shelf, grammar, demand, third, labels, &drawing)
         }
         Err(status) => status,
     }
 }
 
-/// The same by a rules text and the demand text under a name.
-pub(crate) fn ask_rules_text<S: Shelf, Q: Question>(
+/// Asks for what shows the roster of the third text under a name by the demand text under another, and says
+/// it, or why a text is refused; notes the same. The texts are read in this order.
+pub(crate) fn ask_request<S: Shelf>(
     alloc: Global,
     shelf: &mut S,
-    text: &[u8],
+    request: Request<'_, '_, '_>,
     demand: &str,
     third: &str,
-    labels: &[u8],
-    question: &Q,
 ) -> u8
-    ensures { IsReader (RulesAnswers (Q.answers question.now) (S.told shelf.old).held
-        text.now demand.now third.now)
+    ensures { IsReader (AnswersRequest (request_of request.entry) (S.told shelf.old).held
+        demand.now third.now)
         (demand.now ∷ third.now ∷ []) (S.told shelf.old) (S.told shelf.new) result }
 {
-    match read_rules(alloc, text) {
-        Ok(grammar) => ask_demand(alloc, shelf, grammar, demand, third, labels, question),
-        Err(fault) => say_answer_to(shelf, text, rules_refusal(alloc, fault)),
+    match read_rules(alloc, request.rules) {
+        Ok(grammar) => ask_demand(alloc, shelf, grammar, request, demand, third),
+        Err(fault) => {
+            let note = rules_note(alloc, request.rules, fault);
+            say_remarked(shelf, request.rules, rules_refusal(alloc, fault), note)
+        }
     }
 }

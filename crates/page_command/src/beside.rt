@@ -2,48 +2,13 @@ ghost use Rattle.std.specs.Prelude.{[], ◌∷◌};
 ghost use Rattle.answers.specs.Reader.{IsReader};
 ghost use Rattle.page_command.specs.Check.{AnswersBeside, AnswersBesideRules, AnswersOldText};
 
-use crate::asking::ask_rules_text;
-use crate::check::answer_under;
-use crate::kind::Kind;
+use crate::asking::ask_request;
+use crate::kind::FirstWord;
 use crate::limits::{MOST_LABELS, MOST_OLD};
-use answers::{Answer, MOST_PROOF, MOST_RULES, Question, fetched};
-use roster_model::{Instance, Memory};
+use crate::request::Request;
+use answers::{MOST_RULES, fetched};
 use shelf::Shelf;
 use std::alloc::Global;
-
-// The page of a roster under a labels text and beside an old text.
-#[derive(Drop)]
-struct Beside<'a> {
-    labels: &'a [u8],
-    old: &'a [u8],
-}
-
-impl<'a> Question for Beside<'a> {
-    ghost use Rattle.std.specs.Prelude.{Some};
-    ghost use Rattle.page_command.specs.Check.{LabelAnswers};
-    ghost use Rattle.page_command.specs.Statuses.{label-ends};
-    ghost use Rattle.page_command.specs.Fronts.{label-fronts};
-    ghost use Rattle.page_command.specs.declared.kind.Kind.TheVariants.{Page};
-
-    ghost answers = { λ q. LabelAnswers Page q.labels.now (Some q.old.now) };
-
-    ghost limit = { λ _. 1073741824 };
-
-    ghost ends = { λ q. label-ends Page q.labels.now (Some q.old.now) };
-
-    ghost fronts = { λ q. label-fronts Page q.labels.now (Some q.old.now) };
-
-    // A proof text has at most so many bytes, and a report has no more.
-    fn most(&self) -> usize {
-        MOST_PROOF
-    }
-
-    // Says the page, or why it is refused.
-    fn answer(&self, alloc: Global, instance: &Instance, text: &[u8]) -> Result<Answer, Memory> {
-        let old = Some(self.old);
-        answer_under(alloc, Kind::Page, instance, self.labels, old, text)
-    }
-}
 
 // Says the page of a roster under a labels text and beside an old text that is still to be fetched, by a
 // rules text and the demand and proof texts under names.
@@ -63,8 +28,13 @@ fn draw_by_labels<S: Shelf>(
     match fetched(alloc, shelf, old, MOST_OLD) {
         Ok(text) => {
             let old = text.as_slice();
-            let question = Beside { labels, old };
-            ask_rules_text(alloc, shelf, rules, demand, proof, labels, &question)
+            let request = Request {
+                word: FirstWord::Page,
+                rules,
+                labels: Some(labels),
+                old: Some(old),
+            };
+            ask_request(alloc, shelf, request, demand, proof)
         }
         Err(status) => status,
     }

@@ -11,65 +11,18 @@ ghost use Rattle.page_command.specs.Check.{
   OldAnswers,
 };
 
-use crate::asking::ask_rules_text;
+use crate::asking::ask_request;
 use crate::judgement::judgement;
-use crate::kind::Kind;
+use crate::kind::{FirstWord, Kind};
 use crate::limits::MOST_LABELS;
 use crate::old::{read_old, refused_old};
 use crate::refused::refused_labels;
-use answers::{Answer, MOST_PROOF, MOST_RULES, Question, ask, fetched};
-use page_labels::{Labels, no_labels, read_labels};
+use crate::request::Request;
+use answers::{Answer, MOST_RULES, fetched};
+use page_labels::{Labels, read_labels};
 use roster_model::{Instance, Memory};
 use shelf::Shelf;
 use std::alloc::Global;
-
-// What shows a roster, or why it is refused.
-#[derive(Clone, Copy, Drop)]
-struct Drawing {
-    kind: Kind,
-}
-
-impl Question for Drawing {
-    ghost use Rattle.std.specs.Prelude.{None};
-    ghost use Rattle.page_command.specs.Report.{RosterAnswers};
-    ghost use Rattle.page_command.specs.Statuses.{roster-ends};
-    ghost use Rattle.page_command.specs.Fronts.{roster-fronts};
-    ghost use Rattle.page_labels.specs.Labels.{nothing};
-
-    ghost answers = { λ q. RosterAnswers q.kind nothing None };
-
-    ghost limit = { λ _. 1073741824 };
-
-    ghost ends = { λ q. roster-ends q.kind nothing None };
-
-    ghost fronts = { λ q. roster-fronts q.kind nothing None };
-
-    // A proof text has at most so many bytes, and a report has no more.
-    fn most(&self) -> usize {
-        MOST_PROOF
-    }
-
-    // Says what shows the roster, or why it is refused.
-    fn answer(&self, alloc: Global, instance: &Instance, text: &[u8]) -> Result<Answer, Memory> {
-        judgement(alloc, self.kind, instance, &no_labels(alloc), None, text)
-    }
-}
-
-/// Says what shows a roster, by the rules, demand and proof texts under names, or why a text or the roster is
-/// refused. The texts are fetched and read in this order.
-pub fn draw<S: Shelf>(
-    alloc: Global,
-    shelf: &mut S,
-    kind: Kind,
-    rules: &str,
-    demand: &str,
-    proof: &str,
-) -> u8
-    ensures { IsReader (AnswersShown kind (S.told shelf.old).held rules.now demand.now proof.now)
-        (rules.now ∷ demand.now ∷ proof.now ∷ []) (S.told shelf.old) (S.told shelf.new) result }
-{
-    ask(alloc, shelf, rules, demand, proof, &Drawing { kind })
-}
 
 // What is answered to a proof text or a report under labels and beside an old text.
 fn answer_beside(
@@ -89,8 +42,12 @@ fn answer_beside(
     }
 }
 
-// The same, where there may be no old text.
-fn answer_with(
+/// The same, where there may be no old text.
+///
+/// # Errors
+///
+/// `Memory` where memory runs out; there is no answer then.
+pub(crate) fn answer_with(
     alloc: Global,
     kind: Kind,
     instance: &Instance,
@@ -132,35 +89,31 @@ pub(crate) fn answer_under(
     }
 }
 
-// What shows a roster under a labels text.
-#[derive(Drop)]
-struct Labelled<'a> {
-    kind: Kind,
-    labels: &'a [u8],
-}
-
-impl<'a> Question for Labelled<'a> {
-    ghost use Rattle.std.specs.Prelude.{None};
-    ghost use Rattle.page_command.specs.Check.{LabelAnswers};
-    ghost use Rattle.page_command.specs.Statuses.{label-ends};
-    ghost use Rattle.page_command.specs.Fronts.{label-fronts};
-
-    ghost answers = { λ q. LabelAnswers q.kind q.labels.now None };
-
-    ghost limit = { λ _. 1073741824 };
-
-    ghost ends = { λ q. label-ends q.kind q.labels.now None };
-
-    ghost fronts = { λ q. label-fronts q.kind q.labels.now None };
-
-    // A proof text has at most so many bytes, and a report has no more.
-    fn most(&self) -> usize {
-        MOST_PROOF
-    }
-
-    // Says what shows the roster, or why it is refused.
-    fn answer(&self, alloc: Global, instance: &Instance, text: &[u8]) -> Result<Answer, Memory> {
-        answer_under(alloc, self.kind, instance, self.labels, None, text)
+/// Says what shows a roster, by the rules, demand and proof texts under names, or why a text or the roster is
+/// refused. The texts are fetched and read in this order.
+pub fn draw<S: Shelf>(
+    alloc: Global,
+    shelf: &mut S,
+    word: FirstWord,
+    rules: &str,
+    demand: &str,
+    proof: &str,
+) -> u8
+    ensures { IsReader (AnswersShown word (S.told shelf.old).held rules.now demand.now proof.now)
+        (rules.now ∷ demand.now ∷ proof.now ∷ []) (S.told shelf.old) (S.told shelf.new) result }
+{
+    match fetched(alloc, shelf, rules, MOST_RULES) {
+        Ok(text) => {
+            let rules = text.as_slice();
+            let request = Request {
+                word,
+                rules,
+                labels: None,
+                old: None,
+            };
+            ask_request(alloc, shelf, request, demand, proof)
+        }
+        Err(status) => status,
     }
 }
 
@@ -169,20 +122,26 @@ impl<'a> Question for Labelled<'a> {
 fn draw_by_rules<S: Shelf>(
     alloc: Global,
     shelf: &mut S,
-    kind: Kind,
+    word: FirstWord,
     rules: &[u8],
     demand: &str,
     proof: &str,
     labels: &str,
 ) -> u8
-    ensures { IsReader (AnswersLabelsText kind (S.told shelf.old).held rules.now demand.now proof.now labels.now)
+    ensures { IsReader (AnswersLabelsText word (S.told shelf.old).held rules.now demand.now proof.now
+        labels.now)
         (labels.now ∷ demand.now ∷ proof.now ∷ []) (S.told shelf.old) (S.told shelf.new) result }
 {
     match fetched(alloc, shelf, labels, MOST_LABELS) {
         Ok(text) => {
             let labels = text.as_slice();
-            let question = Labelled { kind, labels };
-            ask_rules_text(alloc, shelf, rules, demand, proof, labels, &question)
+            let request = Request {
+                word,
+                rules,
+                labels: Some(labels),
+                old: None,
+            };
+            ask_request(alloc, shelf, request, demand, proof)
         }
         Err(status) => status,
     }
@@ -194,17 +153,18 @@ fn draw_by_rules<S: Shelf>(
 pub fn draw_labelled<S: Shelf>(
     alloc: Global,
     shelf: &mut S,
-    kind: Kind,
+    word: FirstWord,
     rules: &str,
     demand: &str,
     proof: &str,
     labels: &str,
 ) -> u8
-    ensures { IsReader (AnswersLabelled kind (S.told shelf.old).held rules.now demand.now proof.now labels.now)
+    ensures { IsReader (AnswersLabelled word (S.told shelf.old).held rules.now demand.now proof.now
+        labels.now)
         (rules.now ∷ labels.now ∷ demand.now ∷ proof.now ∷ []) (S.told shelf.old) (S.told shelf.new) result }
 {
     match fetched(alloc, shelf, rules, MOST_RULES) {
-        Ok(text) => draw_by_rules(alloc, shelf, kind, text.as_slice(), demand, proof, labels),
+        Ok(text) => draw_by_rules(alloc, shelf, word, text.as_slice(), demand, proof, labels),
         Err(status) => status,
     }
 }

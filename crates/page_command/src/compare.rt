@@ -23,7 +23,8 @@ use std::alloc::Global;
 /// What differs between a roster and an old one, where there is one.
 #[derive(Debug, Drop)]
 pub struct Comparison {
-    /// For each shift of the roster, for each period whether it differs; nothing where there is no old roster.
+    /// For each shift of the roster, for each period whether it differs; nothing where there is no old
+    /// roster.
     pub marks: List<List<bool>>,
     /// How much differs, where there is an old roster.
     pub changes: Option<Changes>,

@@ -107,14 +107,15 @@ fn draw_dated_texts<S: Shelf>(
     demand: &str,
     proof: &str,
 ) -> u8
-    ensures { IsReader (AnswersDatedTexts day (S.told shelf.old).held rules.now labels.now demand.now proof.now)
+    ensures { IsReader (AnswersDatedTexts day (S.told shelf.old).held rules.now labels.now demand.now
+        proof.now)
         (demand.now ∷ proof.now ∷ []) (S.told shelf.old) (S.told shelf.new) result }
 {
     match fetched(alloc, shelf, demand, MOST_DEMAND) {
         Ok(text) => {
             let demand = text.as_slice();
             let dated = Dated { day, labels };
-            ask_texts(alloc, shelf, rules, demand, proof, labels, &dated)
+            ask_texts(alloc, shelf, rules, demand, proof, Some(labels), &dated)
         }
         Err(status) => status,
     }
@@ -130,7 +131,8 @@ fn draw_dated_labels<S: Shelf>(
     proof: &str,
     labels: &str,
 ) -> u8
-    ensures { IsReader (AnswersDatedLabels day (S.told shelf.old).held rules.now demand.now proof.now labels.now)
+    ensures { IsReader (AnswersDatedLabels day (S.told shelf.old).held rules.now demand.now proof.now
+        labels.now)
         (labels.now ∷ demand.now ∷ proof.now ∷ []) (S.told shelf.old) (S.told shelf.new) result }
 {
     match fetched(alloc, shelf, labels, MOST_LABELS) {

@@ -25,6 +25,7 @@ use crate::derived::derivations;
 use crate::kind::Kind;
 use crate::roster::ShownRoster;
 use crate::rows::{copied, rows_of};
+use crate::sums::{Sums, read_texts};
 use page_labels::{Labels, code_words, decimals_of};
 use page_parts::Money;
 use page_text::{CellCover, Content, Figures, add_columns, write_page};
@@ -138,9 +139,11 @@ fn labelled_by(alloc: Global, labels: &Labels, grammar: &Grammar) -> Result<Labe
     })
 }
 
-// Returns what the page of a roster shows under labels, where this differs from an old roster.
+// Returns what the page of a roster shows under labels, where this differs from an old roster and the page is
+// made from texts with these sums.
 fn content_beside(
     alloc: Global,
+    sums: &Sums,
     instance: &Instance,
     labels: &Labels,
     roster: &ShownRoster,
@@ -149,7 +152,7 @@ fn content_beside(
     requires sound { IsSoundInstance instance.now }
     requires roster { IsSoundShown instance.now roster.now }
     ensures content { IfOk result
-        (IsContentBeside labels.now instance.now roster.now comparison.now) }
+        (IsContentBeside sums.now labels.now instance.now roster.now comparison.now) }
     ensures rows { IfOk result (λ c. length c.rows ≤ 64) }
     ensures texts { IfOk result (λ c. length c.derivations ≤ 64) }
     ensures columns { IfOk result (λ c. AreDayColumns c.columns) }
@@ -166,6 +169,7 @@ fn content_beside(
     let shifts = roster.shifts.as_slice();
     let tables = tables_of(alloc, instance, labels, shifts, columns.as_slice())?;
     let labelled = labelled_by(alloc, labels, &instance.grammar)?;
+    let read = read_texts(alloc, roster.is_stated, sums)?;
     Ok(Content {
         title: labelled.title,
         words: labelled.words,
@@ -179,13 +183,14 @@ fn content_beside(
         derivations,
         columns,
         tables,
-        read: List::new(alloc),
+        read,
     })
 }
 
 // Returns what the page of a roster shows under labels, beside an old roster where there is one.
 fn content_of(
     alloc: Global,
+    sums: &Sums,
     instance: &Instance,
     labels: &Labels,
     roster: &ShownRoster,
@@ -194,19 +199,21 @@ fn content_of(
     requires sound { IsSoundInstance instance.now }
     requires roster { IsSoundShown instance.now roster.now }
     requires old { IfSome (option_copied old) (IsOldRoster instance.now) }
-    ensures content { IfOk result (IsContent labels.now instance.now roster.now (option_copied old.entry)) }
+    ensures content { IfOk result (IsContent sums.now labels.now instance.now roster.now
+        (option_copied old.entry)) }
     ensures rows { IfOk result (λ c. length c.rows ≤ 64) }
     ensures texts { IfOk result (λ c. length c.derivations ≤ 64) }
     ensures columns { IfOk result (λ c. AreDayColumns c.columns) }
 {
     let periods = instance.grammar.periods;
     let comparison = compared(alloc, periods, old, roster.shifts.as_slice())?;
-    content_beside(alloc, instance, labels, roster, &comparison)
+    content_beside(alloc, sums, instance, labels, roster, &comparison)
 }
 
 // Returns the page of a roster under labels, beside an old one where there is one.
 fn drawn(
     alloc: Global,
+    sums: &Sums,
     instance: &Instance,
     labels: &Labels,
     roster: &ShownRoster,
@@ -215,9 +222,9 @@ fn drawn(
     requires sound { IsSoundInstance instance.now }
     requires roster { IsSoundShown instance.now roster.now }
     requires old { IfSome (option_copied old) (IsOldRoster instance.now) }
-    ensures { IfOk result (IsPage labels.now instance.now roster.now (option_copied old.entry)) }
+    ensures { IfOk result (IsPage sums.now labels.now instance.now roster.now (option_copied old.entry)) }
 {
-    let content = content_of(alloc, instance, labels, roster, old)?;
+    let content = content_of(alloc, sums, instance, labels, roster, old)?;
     let codes = instance.grammar.codes.as_slice();
     let page = write_page(alloc, instance.grammar.periods, codes, &content);
     drop(content);
@@ -259,7 +266,7 @@ pub fn shown(
     ensures { IfOk result (IsShown kind labels.now instance.now roster.now (option_copied old.entry)) }
 {
     match kind {
-        Kind::Page => drawn(alloc, instance, labels, roster, old),
+        Kind::Page(sums) => drawn(alloc, &sums, instance, labels, roster, old),
         Kind::Table => table_of(alloc, instance, labels, roster.shifts.as_slice()),
         Kind::Coverage => covered(alloc, instance, labels, roster),
         Kind::Calendar(events) => {

@@ -163,14 +163,32 @@ fn note_roster<S: Shelf>(
     }
 }
 
-/// Notes, where labels do not say which code is time off, what the event of a shift of a proof text or a report has that
-/// a reader may not expect: six hours or more without work between its work, and that it leaves out a paid code at its
-/// begin or end. Nothing is noted with another status than 0.
-pub(crate) fn note_events<S: Shelf>(
+// Notes, under a labels text, what `note_events` says.
+fn note_labelled<S: Shelf>(
     alloc: Global,
     shelf: &mut S,
     instance: &Instance,
     labels: &[u8],
+    text: &[u8],
+)
+    requires { IsSoundInstance instance.now }
+    ensures { S.told shelf.new ≡ S.told shelf.old }
+{
+    match read_labels(alloc, instance, labels) {
+        Ok(labels) => note_roster(alloc, shelf, instance, &labels, text),
+        Err(_) => {}
+    }
+}
+
+/// Notes, where a labels text does not say which code is time off, what the event of a shift of a proof text
+/// or a report has that a reader may not expect: six hours or more without work between its work, and that it
+/// leaves out a paid code at its begin or end. Nothing is noted with another status than 0, nor without a
+/// labels text.
+pub(crate) fn note_events<S: Shelf>(
+    alloc: Global,
+    shelf: &mut S,
+    instance: &Instance,
+    labels: Option<&[u8]>,
     text: &[u8],
     status: u8,
 )
@@ -180,8 +198,8 @@ pub(crate) fn note_events<S: Shelf>(
     if status != 0 {
         return;
     }
-    match read_labels(alloc, instance, labels) {
-        Ok(labels) => note_roster(alloc, shelf, instance, &labels, text),
-        Err(_) => {}
+    match labels {
+        Some(labels) => note_labelled(alloc, shelf, instance, labels, text),
+        None => {}
     }
 }

@@ -1,8 +1,18 @@
 ghost use Rattle.std.specs.Prelude.{◌≡◌, map, string_bytes};
-ghost use Rattle.page_command.specs.Run.{form_for, form_of, form_on, kind_of, labelled_form, last_form, shift_form, shift_of, shown_form};
+ghost use Rattle.page_command.specs.Run.{
+  form_for,
+  form_of,
+  form_on,
+  first_word,
+  labelled_form,
+  last_form,
+  shift_form,
+  shift_of,
+  shown_form,
+};
 ghost use Rattle.page_command.specs.Asked.{asked};
 
-use crate::kind::{CalendarDay, Kind, kind_of};
+use crate::kind::{CalendarDay, FirstWord, first_word};
 use roster_csv::{Date, date_of};
 use text_lines::read_within;
 
@@ -11,14 +21,14 @@ use text_lines::read_within;
 pub enum Form<'a> {
     /// What shows a roster, by the rules, demand and proof texts under names.
     Shown {
-        kind: Kind,
+        word: FirstWord,
         rules: &'a str,
         demand: &'a str,
         proof: &'a str,
     },
     /// The same under the labels text under a name.
     Labelled {
-        kind: Kind,
+        word: FirstWord,
         rules: &'a str,
         demand: &'a str,
         proof: &'a str,
@@ -46,12 +56,12 @@ pub enum Form<'a> {
 
 // Reads a word and the names of three texts.
 fn shown_form<'a>(word: &str, rules: &'a str, demand: &'a str, proof: &'a str) -> Form<'a>
-    ensures { asked result ≡ shown_form (kind_of word.now) rules.now demand.now proof.now }
+    ensures { asked result ≡ shown_form (first_word word.now) rules.now demand.now proof.now }
 {
-    match kind_of(word) {
+    match first_word(word) {
         None => Form::None,
-        Some(kind) => Form::Shown {
-            kind,
+        Some(word) => Form::Shown {
+            word,
             rules,
             demand,
             proof,
@@ -67,12 +77,12 @@ fn labelled_form<'a>(
     proof: &'a str,
     labels: &'a str,
 ) -> Form<'a>
-    ensures { asked result ≡ labelled_form (kind_of word.now) rules.now demand.now proof.now labels.now }
+    ensures { asked result ≡ labelled_form (first_word word.now) rules.now demand.now proof.now labels.now }
 {
-    match kind_of(word) {
+    match first_word(word) {
         None => Form::None,
-        Some(kind) => Form::Labelled {
-            kind,
+        Some(word) => Form::Labelled {
+            word,
             rules,
             demand,
             proof,
@@ -169,7 +179,8 @@ fn shift_form<'a>(
     day: &str,
     number: &str,
 ) -> Form<'a>
-    ensures { asked result ≡ shift_form word.now rules.now demand.now proof.now labels.now day.now number.now }
+    ensures { asked result ≡ shift_form word.now rules.now demand.now proof.now labels.now day.now
+        number.now }
 {
     if word == "calendar" {
         let date = date_of(day.as_bytes());

@@ -37,7 +37,7 @@ fn lacks_shift(kind: Kind, shifts: &[Shift]) -> bool
     ensures { result ≡ lacks_shift kind shifts.now }
 {
     match kind {
-        Kind::Page | Kind::Table | Kind::Coverage => false,
+        Kind::Page(_) | Kind::Table | Kind::Coverage => false,
         Kind::Calendar(events) => is_beyond(events.shift, shifts),
     }
 }
@@ -60,9 +60,9 @@ fn shift_line(alloc: Global, kind: Kind, shifts: &[Shift]) -> Result<Option<List
     }
 }
 
-/// Returns the line that is said in place of what shows a roster, where there is one: that of the first name of the
-/// labels that stands at another shift or at none, else that of a shift that there is not, whose events a calendar is
-/// to have.
+/// Returns the line that is said in place of what shows a roster, where there is one: that of the first name
+/// of the labels that stands at another shift or at none, else that of a shift that there is not, whose
+/// events a calendar is to have.
 ///
 /// # Errors
 ///

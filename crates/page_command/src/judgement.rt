@@ -36,7 +36,8 @@ fn proof_answer(
 ) -> Result<Answer, Memory>
     requires sound { IsSoundInstance instance.now }
     requires old { IfSome (option_copied old) (IsOldRoster instance.now) }
-    ensures { IfOk result (λ a. ProofAnswers (Judgement kind labels.now (option_copied old.entry)) instance.now
+    ensures { IfOk result (λ a. ProofAnswers (Judgement kind labels.now (option_copied old.entry))
+        instance.now
         text.now a.status a.output) }
 {
     match judged(alloc, instance, text)? {

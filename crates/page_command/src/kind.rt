@@ -1,6 +1,8 @@
 ghost use Rattle.std.specs.Prelude.{◌≡◌};
-ghost use Rattle.page_command.specs.Run.{kind_of};
+ghost use Rattle.page_command.specs.Kinds.{kind_for};
+ghost use Rattle.page_command.specs.Run.{first_word};
 
+use crate::sums::Sums;
 use roster_csv::{Date, Setting};
 
 /// The day of a calendar, and whose events it has.
@@ -21,11 +23,22 @@ pub struct DayEvents {
     pub shift: Option<u32>,
 }
 
-/// As what a roster is shown.
+/// What the first word asks for, where no day is asked for.
 #[derive(Clone, Copy, Debug, PartialEq, Eq, Drop)]
-pub enum Kind {
-    /// As a page.
+pub enum FirstWord {
+    /// A page.
     Page,
+    /// The table of a roster.
+    Table,
+    /// The table of how it covers each cell.
+    Coverage,
+}
+
+/// As what a roster is shown.
+#[derive(Clone, Copy, Debug, Drop)]
+pub enum Kind {
+    /// As a page that was made from texts with these sums.
+    Page(Sums),
     /// As the table of its roster.
     Table,
     /// As the table of how it covers each cell.
@@ -34,19 +47,30 @@ pub enum Kind {
     Calendar(DayEvents),
 }
 
-// Returns what the first word asks for.
-#[tactic(auto, unfolding(crate::specs::Run::kind_of))]
-pub(crate) fn kind_of(word: &str) -> Option<Kind>
-    ensures { result ≡ kind_of word.now }
+/// Returns what the first word asks for.
+#[tactic(auto, unfolding(crate::specs::Run::first_word))]
+pub(crate) fn first_word(word: &str) -> Option<FirstWord>
+    ensures { result ≡ first_word word.now }
 {
     if word == "page" {
-        return Some(Kind::Page);
+        return Some(FirstWord::Page);
     }
     if word == "table" {
-        return Some(Kind::Table);
+        return Some(FirstWord::Table);
     }
     if word == "coverage" {
-        return Some(Kind::Coverage);
+        return Some(FirstWord::Coverage);
     }
     None
+}
+
+/// Returns as what a roster is shown, where this word asks for it and texts with these sums were read.
+pub(crate) fn kind_for(word: FirstWord, sums: Sums) -> Kind
+    ensures { result ≡ kind_for word sums }
+{
+    match word {
+        FirstWord::Page => Kind::Page(sums),
+        FirstWord::Table => Kind::Table,
+        FirstWord::Coverage => Kind::Coverage,
+    }
 }

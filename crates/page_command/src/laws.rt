@@ -5,7 +5,12 @@ ghost use Rattle.roster_model.specs.Extension.{extended};
 ghost use Rattle.roster_model.specs.declared.instance.Instance.{Instance};
 ghost use Rattle.page_labels.specs.LabelsOf.{labels_of};
 ghost use Rattle.shelf.specs.Shelf.{front_to};
-ghost use Rattle.page_command.specs.OnePage.{HaveOneCalendar, HaveOneLabelledPage, HaveOnePage, HaveOnePageBeside};
+ghost use Rattle.page_command.specs.OnePage.{
+  HaveOneCalendar,
+  HaveOneLabelledPage,
+  HaveOnePage,
+  HaveOnePageBeside,
+};
 ghost use Rattle.roster_value.specs.group_rules.Plain.{plain_from};
 
 /// States a law: the same texts have the same answer; two pages of them are the same but for the trees of the
@@ -24,8 +29,8 @@ pub fn groups_derive_by_the_rules()
         → plain_from (extended g (x ∷ gs)) (x ∷ gs) start ≡ record g { start = start } }
 {}
 
-/// States a law: a labels text and its first bytes, up to one above the limit, are read alike; a text over the limit
-/// and its first bytes so are refused alike.
+/// States a law: a labels text and its first bytes, up to one above the limit, are read alike; a text over
+/// the limit and its first bytes so are refused alike.
 pub fn labels_by_front()
     ensures { (i : Instance) (text : List ℕ) → labels_of i (front_to 65536 text) ≡ labels_of i text }
 {}

@@ -22,8 +22,10 @@ mod old_fault;
 mod program;
 mod refused;
 mod report;
+mod request;
 mod roster;
 mod rows;
+mod sums;
 
 pub use laws::{groups_derive_by_the_rules, labels_by_front, one_page};
 pub use program::run;

@@ -1,6 +1,30 @@
-ghost use Rattle.std.specs.Prelude.{◌≡◌, ◌≤◌, ◌+◌, ◌++◌, [], ◌∷◌, All, length, take, count_by, IfOk, OnOk, OnErr};
+ghost use Rattle.std.specs.Prelude.{
+  ◌≡◌,
+  ◌≤◌,
+  ◌+◌,
+  ◌++◌,
+  [],
+  ◌∷◌,
+  All,
+  length,
+  take,
+  count_by,
+  IfOk,
+  OnOk,
+  OnErr,
+};
 ghost use Rattle.std.specs.List.{flat_map, list_any};
-ghost use Rattle.page_command.specs.Rows.{are_many, count_of, has_row, is_same, marks_at, own_row, row_of, rows_at, rows_of};
+ghost use Rattle.page_command.specs.Rows.{
+  are_many,
+  count_of,
+  has_row,
+  is_same,
+  marks_at,
+  own_row,
+  row_of,
+  rows_at,
+  rows_of,
+};
 
 use crate::compare::Comparison;
 use page_labels::Labels;
@@ -11,8 +35,8 @@ use shift_figures::drawn_order;
 use std::alloc::Global;
 use text_lines::put;
 
-/// Up to so many shifts have a row each; where there are more, equal ones have one row, unless one is named or an old
-/// roster stands beside them.
+/// Up to so many shifts have a row each; where there are more, equal ones have one row, unless one is named
+/// or an old roster stands beside them.
 const MOST_OWN_ROWS: usize = 40;
 
 // Whether two employees of one group have one word.
@@ -198,8 +222,9 @@ fn rows_in(
     Ok(rows)
 }
 
-/// Returns a row for each shift, or, where there are more than 40, none has a name and there is no old roster, one for
-/// all that are equal: by group, first period of work, last period of work and number, those without work last in their group.
+/// Returns a row for each shift, or, where there are more than 40, none has a name and there is no old
+/// roster, one for all that are equal: by group, first period of work, last period of work and number, those
+/// without work last in their group.
 ///
 /// # Errors
 ///

@@ -118,6 +118,11 @@ use 7 A 3 2\n\
 use 6 A 4 1\n\
 </pre>\n\
 </div>\n\
+<footer><p>Made from these texts; <code>roster check RULES DEMAND PROOF</code> checks them.</p>\n\
+<pre>9e7ac050104deb95688b4f70520a29c7fb6e2193a4fa0d6cc9fa1b9147b6503c  RULES\n\
+956d3958acbfe3014da10a20206df515c360dcbba6c0d808c60351b19fcab7ea  DEMAND\n\
+6461351c8fbc978e3a1b92db8c12bf6da9d42f569881a156828baecb4118b3f2  PROOF\n\
+</pre></footer>\n\
 </main>\n\
 </body>\n\
 </html>\n";
@@ -203,6 +208,13 @@ y='32' width='39' height='22'/><path class='changed' d='M120 55H159'/><rect clas
 <tr><td>1</td><td>Ann</td><td>0:00</td><td>8:00</td><td>1</td><td>16:00</td><td>0.01</td><td class='word'>a.a</td></tr>
 <tr><td>1</td><td>Ann</td><td>16:00</td><td>0:00 +1</td><td>1</td><td></td><td></td><td></td></tr>
 cost 0.01
+<footer><p>Made from these texts; <code>roster value RULES DEMAND REPORT</code> checks them.</p>
+<pre>8fed70b2d744dfeddce3de9a526a187545d0a0a9fcfcf43e0a725bda95cc7791  RULES
+06a11a855e8e4e08d28a5dacb38593178875247b736113d0c8a9f5109a967175  DEMAND
+81f4cfccc4f2aa965c8cce629662f639e587108652aa096b636dab644df71acb  REPORT
+f8c05846768070b06cd2e7bd6ebcaf51569fa26bff7c0881c33a94fc20cc2c4f  LABELS
+ab1f57b57ee7479d739a600ab555a9bf4738c2041cb4ee3716fb90d2efcc69f9  OLD
+</pre></footer>
 ";
 
 #[test]

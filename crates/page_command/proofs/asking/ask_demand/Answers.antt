@@ -1,7 +1,9 @@
 use Rattle.std.proofs.Common.{[], ◌∷◌}
 use Rattle.shelf.specs.Shelf.{Told}
-use Rattle.answers.specs.Asked.{AnswersDemand}
-use Rattle.answers.proofs.AskedLemmas.{demand-read, unread}
+use Rattle.answers.proofs.AskedLemmas.{unread}
+use Rattle.page_command.specs.Check.{AnswersDemand}
+use Rattle.page_command.specs.Requests.{request_of}
+use Rattle.page_command.proofs.LabelledReaders.{demand-fetched}
 use Rattle.page_command.proofs.asking.ask_demand.Goals as goal
 
 pub returns-in-Ok : goal.returns-in-Ok
@@ -9,10 +11,10 @@ returns-in-Ok g c =
     let before : Told = g.S.Shelf.told c.args.shelf.now in
     let middle : Told = g.S.Shelf.told c.fetched.new.shelf in
     let after : Told = g.S.Shelf.told c.ask_demand_text.new.shelf in
-    demand-read (g.Q.Question.answers c.args.question.now) before after c.ask_demand_text.result c.args.grammar c.args.demand.now c.args.third.now c.in-Ok.text.items middle c.in-Ok.ensures.text (rw c.as_slice-text.ensures.value at c.ask_demand_text.ensures)
+    demand-fetched (request_of c.args.request) before after c.ask_demand_text.result c.args.demand.now c.args.third.now c.args.grammar c.in-Ok.text.items middle c.in-Ok.ensures.text (rw c.as_slice-demand.ensures.value at c.ask_demand_text.ensures)
 
 pub returns-in-Err : goal.returns-in-Err
 returns-in-Err g c =
     let before : Told = g.S.Shelf.told c.args.shelf.now in
     let after : Told = g.S.Shelf.told c.fetched.new.shelf in
-    unread (AnswersDemand (g.Q.Question.answers c.args.question.now) before.held c.args.grammar c.args.demand.now c.args.third.now) c.args.demand.now (c.args.third.now ∷ []) before after c.in-Err.status c.in-Err.ensures.refusal
+    unread (AnswersDemand (request_of c.args.request) before.held c.args.grammar c.args.demand.now c.args.third.now) c.args.demand.now (c.args.third.now ∷ []) before after c.in-Err.status c.in-Err.ensures.refusal

@@ -9,12 +9,12 @@ pub returns-in-Ok : goal.returns-in-Ok
 returns-in-Ok g c =
     let before : Told = g.S.Shelf.told c.args.shelf.now in
     let middle : Told = g.S.Shelf.told c.fetched.new.shelf in
-    let after : Told = g.S.Shelf.told c.ask_rules_text.new.shelf in
-    labels-fetched c.args.kind before after c.ask_rules_text.result c.args.demand.now c.args.proof.now c.args.rules.now c.args.labels.now c.in-Ok.text.items middle c.in-Ok.ensures.text
-    (rw c.as_slice-labels.ensures.value at c.ask_rules_text.ensures)
+    let after : Told = g.S.Shelf.told c.ask_request.new.shelf in
+    labels-fetched c.args.word before after c.ask_request.result c.args.demand.now c.args.proof.now c.args.rules.now c.args.labels.now c.in-Ok.text.items middle c.in-Ok.ensures.text
+    (rw c.as_slice-labels.ensures.value at c.ask_request.ensures)
 
 pub returns-in-Err : goal.returns-in-Err
 returns-in-Err g c =
     let before : Told = g.S.Shelf.told c.args.shelf.now in
     let after : Told = g.S.Shelf.told c.fetched.new.shelf in
-    unread (AnswersLabelsText c.args.kind before.held c.args.rules.now c.args.demand.now c.args.proof.now c.args.labels.now) c.args.labels.now (c.args.demand.now ∷ c.args.proof.now ∷ []) before after c.in-Err.status c.in-Err.ensures.refusal
+    unread (AnswersLabelsText c.args.word before.held c.args.rules.now c.args.demand.now c.args.proof.now c.args.labels.now) c.args.labels.now (c.args.demand.now ∷ c.args.proof.now ∷ []) before after c.in-Err.status c.in-Err.ensures.refusal

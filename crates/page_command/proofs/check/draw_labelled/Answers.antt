@@ -10,11 +10,11 @@ returns-in-Ok g c =
     let before : Told = g.S.Shelf.told c.args.shelf.now in
     let middle : Told = g.S.Shelf.told c.fetched.new.shelf in
     let after : Told = g.S.Shelf.told c.draw_by_rules.new.shelf in
-    rules-labelled c.args.kind before after c.draw_by_rules.result c.args.demand.now c.args.proof.now c.args.rules.now c.args.labels.now c.in-Ok.text.items middle c.in-Ok.ensures.text (rw c.as_slice.ensures.value at c.draw_by_rules.ensures)
+    rules-labelled c.args.word before after c.draw_by_rules.result c.args.demand.now c.args.proof.now c.args.rules.now c.args.labels.now c.in-Ok.text.items middle c.in-Ok.ensures.text (rw c.as_slice.ensures.value at c.draw_by_rules.ensures)
 
 pub returns-in-Err : goal.returns-in-Err
 returns-in-Err g c =
     let before : Told = g.S.Shelf.told c.args.shelf.now in
     let after : Told = g.S.Shelf.told c.fetched.new.shelf in
-    unread (AnswersLabelled c.args.kind before.held c.args.rules.now c.args.demand.now c.args.proof.now c.args.labels.now) c.args.rules.now (c.args.labels.now ∷ c.args.demand.now ∷ c.args.proof.now ∷ []) before after c.in-Err.status
+    unread (AnswersLabelled c.args.word before.held c.args.rules.now c.args.demand.now c.args.proof.now c.args.labels.now) c.args.rules.now (c.args.labels.now ∷ c.args.demand.now ∷ c.args.proof.now ∷ []) before after c.in-Err.status
     c.in-Err.ensures.refusal

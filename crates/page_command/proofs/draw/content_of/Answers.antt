@@ -8,4 +8,4 @@ compared-requires-clause-few_old c = IfSome_then (option_copied c.args.old) c.re
 
 pub returns-clause-content : goal.returns-clause-content
 returns-clause-content c =
-    content_is c.args.labels.now c.args.instance.now c.args.roster.now (option_copied c.args.old) c.in_ok-comparison.comparison c.content_beside.result (rw c.as_slice.ensures at c.in_ok-comparison.ensures) c.content_beside.ensures.content
+    content_is c.args.sums.now c.args.labels.now c.args.instance.now c.args.roster.now (option_copied c.args.old) c.in_ok-comparison.comparison c.content_beside.result (rw c.as_slice.ensures at c.in_ok-comparison.ensures) c.content_beside.ensures.content

@@ -1,0 +1,19 @@
+use Rattle.std.proofs.Common.{[], ◌∷◌}
+use Rattle.shelf.specs.Shelf.{Told}
+use Rattle.answers.proofs.AskedLemmas.{unread}
+use Rattle.page_command.specs.Check.{AnswersShown}
+use Rattle.page_command.proofs.LabelledReaders.{rules-fetched}
+use Rattle.page_command.proofs.check.draw.Goals as goal
+
+pub returns-in-Ok : goal.returns-in-Ok
+returns-in-Ok g c =
+    let before : Told = g.S.Shelf.told c.args.shelf.now in
+    let middle : Told = g.S.Shelf.told c.fetched.new.shelf in
+    let after : Told = g.S.Shelf.told c.ask_request.new.shelf in
+    rules-fetched c.args.word before after c.ask_request.result c.args.demand.now c.args.proof.now c.args.rules.now c.in-Ok.text.items middle c.in-Ok.ensures.text (rw c.as_slice-rules.ensures.value at c.ask_request.ensures)
+
+pub returns-in-Err : goal.returns-in-Err
+returns-in-Err g c =
+    let before : Told = g.S.Shelf.told c.args.shelf.now in
+    let after : Told = g.S.Shelf.told c.fetched.new.shelf in
+    unread (AnswersShown c.args.word before.held c.args.rules.now c.args.demand.now c.args.proof.now) c.args.rules.now (c.args.demand.now ∷ c.args.proof.now ∷ []) before after c.in-Err.status c.in-Err.ensures.refusal
