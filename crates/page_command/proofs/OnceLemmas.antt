@@ -23,12 +23,11 @@ use Rattle.roster_value.specs.stated_rosters.FaultLine as roster
 use Rattle.roster_value.specs.stated_rosters.RosterOf.{roster_of}
 use Rattle.roster_value.specs.declared.stated_rosters.fault.RosterFault.{RosterFault}
 use Rattle.shelf.specs.Shelf.{Texts}
-use Rattle.answer_texts.specs.TreeText.{tree_text}
+use Rattle.derived_rules.specs.RuledTrees.{AreRuledAtOnePrice}
 use Rattle.answer_texts.specs.VerdictText.{verdict_text}
 use Rattle.answers.specs.Asked.{ProofAnswers, TextAnswers, AnswersThird, DemandAnswers, TextsAnswers}
 use Rattle.answers.specs.Readings.{SaysProofFault}
 use Rattle.answers.specs.Asked as checks
-use Rattle.text_commands.specs.SameTexts.{AreTreesAtOnePrice}
 use Rattle.answers.proofs.OneReading.{same_text, same_ok, same_err, not_both, same_grammar, no_fault, faults_once}
 use Rattle.page_labels.specs.FaultLine as label
 use Rattle.page_labels.specs.Labels.{nothing}
@@ -67,7 +66,7 @@ use Rattle.page_command.proofs.OneComparison.{compared_once}
 abbrev AreAlike : ℕ → ℕ → List ℕ → List ℕ → Type 0
 AreAlike s t a b = (s ≡ t) × AreSameButTrees a b
 
-trees_of_row : (i : Instance) (r : Row) (a b : List ℕ) → IsDerived i r a → IsDerived i r b → AreTreesAtOnePrice r.word a b
+trees_of_row : (i : Instance) (r : Row) (a b : List ℕ) → IsDerived i r a → IsDerived i r b → AreRuledAtOnePrice r.word a b
 trees_of_row i r a b h k =
     let g : Grammar = rules_of i r.group in
     record {
@@ -75,8 +74,8 @@ trees_of_row i r a b h k =
       price = r.price;
       one = steps 1 h.says.tree;
       other = steps 1 k.says.tree;
-      first = h.says.text ∙ ap (λ (p : ℕ). tree_text g r.word p (steps 1 h.says.tree)) h.price;
-      second = k.says.text ∙ ap (λ (p : ℕ). tree_text g r.word p (steps 1 k.says.tree)) k.price;
+      first = h.text;
+      second = k.text;
     }
 
 trees_of_rows : (i : Instance) (rs : List Row) (xs ys : List (List ℕ)) → AreDerived i rs xs → AreDerived i rs ys → AreTreesOfRows rs xs ys

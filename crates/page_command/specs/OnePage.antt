@@ -6,7 +6,7 @@ use Rattle.page_text.specs.Pages.{page}
 use Rattle.page_text.specs.declared.content.Content.{Content}
 use Rattle.page_text.specs.declared.row.Row.{Row}
 use Rattle.shelf.specs.Shelf.{Texts}
-use Rattle.text_commands.specs.SameTexts.{AreTreesAtOnePrice}
+use Rattle.derived_rules.specs.RuledTrees.{AreRuledAtOnePrice}
 use Rattle.page_command.specs.Check.{AnswersBeside, AnswersLabelled, AnswersShown}
 use Rattle.page_command.specs.Dated.{AnswersDated}
 use Rattle.page_command.specs.declared.kind.FirstWord.{FirstWord}
@@ -15,7 +15,7 @@ use Rattle.page_command.specs.declared.kind.CalendarDay.{CalendarDay}
 -- for each row two derivations of its word, at one price
 abbrev pub AreTreesOfRows : List Row → List (List ℕ) → List (List ℕ) → Type 0
 AreTreesOfRows [] [] [] = Unit {0}
-AreTreesOfRows (r ∷ rs) (a ∷ texts) (b ∷ bs) = AreTreesAtOnePrice r.word a b × AreTreesOfRows rs texts bs
+AreTreesOfRows (r ∷ rs) (a ∷ texts) (b ∷ bs) = AreRuledAtOnePrice r.word a b × AreTreesOfRows rs texts bs
 AreTreesOfRows _ _ _ = ⊥
 
 -- the same content, but for the trees of the derivations

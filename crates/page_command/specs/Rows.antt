@@ -13,7 +13,7 @@ use Rattle.page_labels.specs.declared.labels.Labels.{Labels}
 use Rattle.page_text.specs.declared.row.Row.{Row}
 use Rattle.shift_figures.specs.Order.{drawn_order}
 use Rattle.roster_tables.specs.Called.{row_called}
-use Rattle.text_commands.specs.Explain.{SaysTree}
+use Rattle.derived_rules.specs.RuledTrees.{SaysWithRules}
 use Rattle.page_command.specs.declared.compare.Comparison.{Comparison}
 
 -- employees of one group with one word
@@ -80,11 +80,10 @@ pub record IsPricedRow (i : Instance) (r : Row) : Type 0 where
   pub sound : IsSound (rules_of i r.group)
   pub price : IsPrice (rules_of i r.group) (start_of i r.group) r.word r.price
 
--- what `explain` says of the row's word by the rules of its group, with status 0: a tree of the word at
--- the row's price
-pub record IsDerived (i : Instance) (r : Row) (text : List ℕ) : Type 0 where
-  pub says : SaysTree (rules_of i r.group) r.word text
-  pub price : says.price ≡ r.price
+-- how the rules of its group derive the row's word: what `explain` says of it by these rules, with status 0,
+-- at the row's price, and behind each rule use the rule
+abbrev pub IsDerived : Instance → Row → List ℕ → Type 0
+IsDerived i r text = SaysWithRules (rules_of i r.group) r.word r.price text
 
 abbrev pub AreDerived : Instance → List Row → List (List ℕ) → Type 0
 AreDerived i [] [] = Unit {0}

@@ -2,11 +2,11 @@ ghost use Rattle.std.specs.Prelude.{◌≡◌, All, length, IfOk};
 ghost use Rattle.roster_value.specs.group_rules.Plain.{plain_from};
 ghost use Rattle.page_command.specs.Rows.{AreDerived, IsDerived, IsPricedRow, start_of};
 
+use derived_rules::derivation_with_rules;
 use page_text::Row;
 use roster_model::{Grammar, Instance, List, Memory};
 use roster_value::plain_grammar;
 use std::alloc::Global;
-use text_commands::explain::derivation;
 
 // The name that derives the words of a group.
 fn start_of(instance: &Instance, group: u8) -> u8
@@ -19,7 +19,7 @@ fn start_of(instance: &Instance, group: u8) -> u8
     }
 }
 
-// Returns what is said of a row's word by the rules of its group. The grammar gets the group's start.
+// Returns how the rules of its group derive a row's word. The grammar gets the group's start.
 fn derived(
     alloc: Global,
     instance: &Instance,
@@ -32,11 +32,11 @@ fn derived(
     ensures rules { grammar.new ≡ plain_from instance.now.grammar instance.now.groups grammar.new.start }
 {
     grammar.start = start_of(instance, row.group);
-    Ok(derivation(alloc, grammar, row.word.as_slice())?.output)
+    derivation_with_rules(alloc, grammar, row.word.as_slice(), row.price)
 }
 
-// Returns for each row what is said of its word by the rules of its group, by the rules of the day without
-// what its groups add.
+// Returns for each row how the rules of its group derive its word, by the rules of the day without what its
+// groups add.
 fn derivations_by(
     alloc: Global,
     instance: &Instance,
@@ -55,8 +55,8 @@ fn derivations_by(
     Ok(texts)
 }
 
-/// Returns for each row what is said of its word by the rules of its group: a tree of the word at the row's
-/// price.
+/// Returns for each row how the rules of its group derive its word: a tree of the word at the row's price,
+/// and the rules that it uses.
 ///
 /// # Errors
 ///

@@ -101,21 +101,33 @@ a</text></g>\n\
 word aaa.\n\
 cost 5\n\
 use 3 S 1 4\n\
+rule S 0 = W R\n\
 use 5 W 1 3\n\
+rule W 2 = A len 2 3\n\
 use 7 A 1 3\n\
+rule A 1 = &#39;a&#39; A\n\
 use 7 A 2 2\n\
+rule A 1 = &#39;a&#39; A\n\
 use 6 A 3 1\n\
+rule A 1 = &#39;a&#39;\n\
 use 8 R 4 1\n\
+rule R 0 = &#39;.&#39;\n\
 </pre>\n\
 <pre class='derivation' id='d1'><b>Shift 1: .aaa, price 5</b>\n\
 word .aaa\n\
 cost 5\n\
 use 2 S 1 4\n\
+rule S 0 = R W\n\
 use 8 R 1 1\n\
+rule R 0 = &#39;.&#39;\n\
 use 5 W 2 3\n\
+rule W 2 = A len 2 3\n\
 use 7 A 2 3\n\
+rule A 1 = &#39;a&#39; A\n\
 use 7 A 3 2\n\
+rule A 1 = &#39;a&#39; A\n\
 use 6 A 4 1\n\
+rule A 1 = &#39;a&#39;\n\
 </pre>\n\
 </div>\n\
 <footer><p>Made from these texts; <code>roster check RULES DEMAND PROOF</code> checks them.</p>\n\
@@ -158,6 +170,10 @@ const PAGES: &str = "
 <rect class='have' x='266' y='80' width='30' height='32'/><rect class='short' x='266' y='48'
 <path class='floor' d='M176 80H206'/><path class='ceiling' d='M176 16H206'/>
 Short: 0 0 0 0 0 0 1 1 3 3 1 1 1 0 1 2 3 3 2 2 1 1 0 0. Surplus: 0
+use 5 D 5 11
+rule D 20 = B L B &#39;p&#39; B len 8 16
+use 13 L 9 2
+rule L 0 = &#39;m&#39; &#39;m&#39; begin 9 14
 ~ page day all_day long
 0 ..
 viewBox='0 0 1088 66' width='1088' height='66'>
@@ -181,6 +197,8 @@ viewBox='0 0 1088 66' width='1088' height='66'>
 ~ page halves groups staff team
 0 ..
 <text class='name' x='118' y='47'>full time</text>
+use 3 F 1 2
+rule F 3 = &#39;a&#39; &#39;a&#39;
 ~ page g3 centre shift called
 0 ..
 <text class='tick' x='56' y='20'>7:00</text><text class='tick' x='116' y='20'>8:00</text>

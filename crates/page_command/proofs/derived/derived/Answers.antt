@@ -1,7 +1,8 @@
-use Rattle.std.proofs.Common.{◌≡◌}
+use Rattle.std.proofs.Common.{◌≡◌, IfOk, subst}
 use Rattle.roster_model.specs.declared.grammar.Grammar.{Grammar}
+use Rattle.derived_rules.specs.RuledTrees.{SaysWithRules}
 use Rattle.page_command.specs.Rows.{rules_of}
-use Rattle.page_command.proofs.DerivedLemmas.{is_derived, with_start}
+use Rattle.page_command.proofs.DerivedLemmas.{with_start}
 use Rattle.page_command.proofs.derived.derived.Goals as goal
 
 pub returns-clause-text : goal.returns-clause-text
@@ -10,4 +11,4 @@ returns-clause-text c =
     let r = c.args.row.now in
     let g : Grammar = record c.args.grammar.now { start = c.start_of-grammar.result } in
     let same : g ≡ rules_of i r.group = rw c.start_of-grammar.ensures (with_start i r.group c.args.grammar.now c.requires.rules) in
-    is_derived i r g c.in_ok-derivation.field-0.status c.in_ok-derivation.field-0.output same c.requires.priced (rw c.as_slice.ensures at c.in_ok-derivation.ensures)
+    subst (λ (q : Grammar). IfOk c.derivation_with_rules.result (SaysWithRules q r.word r.price)) same (rw c.as_slice.ensures at c.derivation_with_rules.ensures)

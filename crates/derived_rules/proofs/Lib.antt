@@ -1,0 +1,2 @@
+mod RuledLemmas
+mod UsedRules
