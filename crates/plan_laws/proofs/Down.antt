@@ -1,7 +1,7 @@
 -- What means has a rule and parts: one lemma for each name.
 use Rattle.std.proofs.Common.{◌≡◌, ◌≢◌, Bool, true, false, not, nat_le, nat_eq, IsTrue, ◌⊎◌, ℕ, zero, suc, ◌<◌, ◌≤◌, ◌+◌, ◌-◌, ◌*◌, Option, None, Some, List, [], ◌∷◌, ◌++◌, length, map, arith, refl, subst, sym, ap, ◌∙◌, length-append, append-nil, inl, inr}
 use Rattle.std.proofs.Math.Nat.{eq-or-lt_of_le}
-use Rattle.std.proofs.lemmas.Bool.{eqb-true}
+use Rattle.std.proofs.lemmas.Bool.{eqb-true, le-leb}
 use Rattle.roster_model.specs.Grammar.{IsInWindow}
 use Rattle.roster_model.specs.declared.grammar.Window.{Window}
 use Rattle.roster_model.specs.Folds.{In, Each}
@@ -12,7 +12,7 @@ use Rattle.plan_laws.specs.declared.period_plan.PeriodPart.{PeriodPart}
 use Rattle.plan_laws.specs.declared.period_plan.PeriodPlan.{PeriodPlan}
 use Rattle.plan_laws.specs.declared.period_plan.PeriodPart.TheVariants.{Pausing, Working}
 use Rattle.plan_laws.specs.PeriodShifts.{plus_of, letter_cost, word_cost, change_cost, Alone, IsAlone, Block, IsBlock, joined, Differ, AreBlocks, MayChange, MayBegin, IsRest, IsPart, AreParts, IsStart, IsLetter, IsLine}
-use Rattle.plan_laws.specs.Names.{Kind, at, run, block, free_one, any_list, open_list, from, other, work, rest, off, step, steps, lead, duty, day, start, dots, lead_rules, lead_of, lead_kind, no_letters, leaves, kept_rule, early_days, change_in, plain, copies, spells_of, others, kind_of, symbols_of, duty_rule, at_rule, from_rule, block_rule, block_rules, touch_rules, any_rules, open_rules, work_rules, whole, opened, numbers_from, length_rule, has_few, rest_rules, rest_kind, chosen, is_bound, Free, Loose, IsFreeBlock, IsSet, IsStretchSet, IsGoodPart, IsGoodDuty, rules_for, BlocksFrom, IsDutyOf, IsDayOf, Means, IsUsed, rank}
+use Rattle.plan_laws.specs.Names.{Kind, at, run, block, free_one, any_list, open_list, from, other, work, rest, off, step, steps, lead, duty, day, start, dots, lead_rules, lead_of, lead_kind, no_letters, leaves, kept_rule, early_days, change_in, plain, copies, spells_of, others, kind_of, symbols_of, duty_rule, at_rule, from_rule, block_rule, longer_rules, block_rules, touch_rules, any_rules, open_rules, work_rules, whole, opened, numbers_from, length_rule, has_few, rest_rules, rest_kind, chosen, is_bound, Free, Loose, IsFreeBlock, IsSet, IsStretchSet, IsGoodPart, IsGoodDuty, rules_for, BlocksFrom, IsDutyOf, IsDayOf, Means, IsUsed, rank}
 use Rattle.plan_laws.proofs.SpellLemmas.{Tells, spells_tell, spells_hold, to_spell}
 use Rattle.plan_laws.proofs.Trees.{each_in}
 use Rattle.plan_laws.proofs.Sides.{in_map, as_one, as_two}
@@ -72,15 +72,23 @@ module _ (p : PeriodPlan) (free : Free) (plus : ℕ) where
   block_down : (a : Activity) (i : ℕ) (w : List ℕ) (c : ℕ) → IsLine p a → Means p free (block plus a) i w c → Here p i w → (short : Bool) → ByRule (block_rules plus short a) (Means p free) i w c
   block_down a i w c line m h true = go (eq-or-lt_of_le m.0.least)
     where
+      more_rule : NamedRule Kind
+      more_rule = record (plain 0 (named (at plus a) ∷ named (block plus a) ∷ [])) { span = record { lo = a.least + 1; hi = a.greatest } }
+
+      more_in : (v : Bool) → v ≡ true → In more_rule (longer_rules plus v a)
+      more_in true e = inl refl
+      more_in false e = cc
+
       longer : (w : List ℕ) → c ≡ word_cost p plus i w → IsAlone a w → Here p i w → a.least < length w → ByRule (block_rules plus true a) (Means p free) i w c
       longer [] e m h lt = absurd (omega arith)
       longer (x ∷ v) e m h lt =
           let f = plain_fits p 0 [] i (x ∷ v) h in
           let paid : word_cost p plus i (x ∷ v) ≡ letter_cost p plus a.code i + word_cost p plus (i + 1) v = word_cost-one p plus i x v ∙ ap (λ (y : ℕ). letter_cost p plus y i + word_cost p plus (i + 1) v) m.alone.0 in
+          let more : a.least + 1 ≤ a.greatest = omega (arith, lt, m.greatest) in
           record {
-            own = record (plain 0 (named (at plus a) ∷ named (block plus a) ∷ [])) { span = record { lo = a.least + 1; hi = a.greatest } };
+            own = more_rule;
             paid = c;
-            one = inr (inl refl);
+            one = inr (more_in (nat_le (a.least + 1) a.greatest) (le-leb (a.least + 1) a.greatest more));
             fits = record { span = (omega arith, m.greatest); first = f.first; last = f.last };
             parts = as_two (Means p free) (at plus a) (block plus a) i (x ∷ v) (a.code ∷ []) v c (letter_cost p plus a.code i) (word_cost p plus (i + 1) v)
                 (ap (λ (y : ℕ). y ∷ v) m.alone.0) (e ∙ paid) (refl, refl) (omega arith)

@@ -9,7 +9,7 @@ use Rattle.plan_laws.specs.declared.period_plan.PeriodDuty.{PeriodDuty}
 use Rattle.plan_laws.specs.declared.period_plan.PeriodPart.{PeriodPart}
 use Rattle.plan_laws.specs.declared.period_plan.PeriodPlan.{PeriodPlan}
 use Rattle.plan_laws.specs.PeriodShifts.{IsLine}
-use Rattle.plan_laws.specs.Names.{Kind, at, run, block, free_one, any_list, open_list, from, other, work, rest, off, step, steps, lead, duty, day, start, plain, copies, dots, lead_kind, lead_rules, early_days, leaves, kept_rule, others, chosen, is_bound, Free, symbols_of, duty_rule, at_rule, spells_of, from_rule, block_rule, open_rules, any_rules, block_rules, numbers_from, length_rule, has_few, rest_rules, work_rules, change_in, rules_for, IsGoodDuty, IsUsed}
+use Rattle.plan_laws.specs.Names.{Kind, at, run, block, free_one, any_list, open_list, from, other, work, rest, off, step, steps, lead, duty, day, start, plain, copies, dots, lead_kind, lead_rules, early_days, leaves, kept_rule, others, chosen, is_bound, Free, symbols_of, duty_rule, at_rule, spells_of, from_rule, block_rule, open_rules, any_rules, longer_rules, block_rules, numbers_from, length_rule, has_few, rest_rules, work_rules, change_in, rules_for, IsGoodDuty, IsUsed}
 use Rattle.plan_laws.proofs.Trees.{each_in}
 use Rattle.plan_laws.proofs.Sides.{map_each, all_each}
 use Rattle.plan_laws.proofs.Words.{each_side, in_numbers}
@@ -50,11 +50,15 @@ module _ (p : PeriodPlan) (free : Free) (starts : p.starts ≤ 8) (first : p.fir
   any_short r s xs [] = ((omega arith, omega arith), ((omega arith, omega arith), tt))
   any_short r s xs (b ∷ bs) = each_side Short (open_rules r s xs) (map (from_rule r s) (b ∷ bs)) (open_short r s xs) (from_short r s (b ∷ bs))
 
+  longer_short : (r : ℕ) (a : Activity) (v : Bool) → Each Short (longer_rules r v a)
+  longer_short r a true = ((omega arith, omega arith), tt)
+  longer_short r a false = tt
+
   block_short : (r : ℕ) (a : Activity) → IsLine p a → (v : Bool) → nat_le a.least 8 ≡ v → Each Short (block_rules r v a)
   block_short r a line true e =
       let long = copies_long a.least (at r a) in
       let most = leb-true a.least 8 e in
-      ((omega (arith, long, line.some), omega (arith, long, most)), ((omega arith, omega arith), tt))
+      ((omega (arith, long, line.some), omega (arith, long, most)), longer_short r a (nat_le (a.least + 1) a.greatest))
   block_short r a line false e = ((omega arith, omega arith), tt)
 
   work_short : (r : ℕ) (ch : Option ℕ) (s : List Activity) (long : Window) → Each Short (work_rules r ch s long)

@@ -45,7 +45,7 @@ small_written = record {
               ((plus_block_in, tt), tt),
               (
                 ((at_in, tt), ((at_in, (block_in, tt)), tt)),
-                (((plus_at_in, tt), ((plus_at_in, (plus_block_in, tt)), tt)), (((meal_at_in, tt), ((meal_at_in, (meal_in, tt)), tt)), ((tt, tt), ((tt, tt), ((tt, tt), (((meal_at_in, tt), tt), tt)))))),
+                (((plus_at_in, tt), ((plus_at_in, (plus_block_in, tt)), tt)), (((meal_at_in, tt), tt), ((tt, tt), ((tt, tt), ((tt, tt), (((meal_at_in, tt), tt), tt)))))),
               ),
             ),
           ),
@@ -73,9 +73,6 @@ small_written = record {
 
     plus_block_in : In (block 4 goods) names
     plus_block_in = inr (inr (inr (inr (inr (inr (inl refl))))))
-
-    meal_in : In (block 0 meal) names
-    meal_in = inr (inr (inr (inr (inr (inr (inr (inl refl)))))))
 
     at_in : In (at 0 goods) names
     at_in = inr (inr (inr (inr (inr (inr (inr (inr (inl refl))))))))

@@ -11,7 +11,7 @@ use Rattle.plan_laws.specs.declared.period_plan.PeriodPlan.{PeriodPlan}
 use Rattle.plan_laws.specs.declared.period_plan.PeriodPart.TheVariants.{Pausing, Working}
 use Rattle.plan_laws.specs.PeriodShifts.{plus_of, letter_cost, word_cost, change_cost, Alone, IsAlone, joined, AreBlocks, MayChange, IsStretch, MayBegin, IsRest, IsPart, AreParts, IsLetter, IsLine}
 use Rattle.plan_laws.specs.PeriodShifts.{IsStart}
-use Rattle.plan_laws.specs.Names.{Kind, at, run, block, free_one, any_list, open_list, from, other, work, rest, off, step, steps, lead, duty, day, start, dots, lead_rules, lead_of, lead_kind, no_letters, leaves, kept_rule, early_days, change_in, plain, copies, spells_of, others, kind_of, symbols_of, duty_rule, at_rule, from_rule, block_rule, block_rules, touch_rules, any_rules, open_rules, work_rules, opened, numbers_from, length_rule, has_few, rest_rules, rest_kind, chosen, is_bound, Free, IsSet, IsStretchSet, IsGoodPart, IsGoodDuty, rules_for, BlocksFrom, IsDutyOf, Means, IsUsed, rank}
+use Rattle.plan_laws.specs.Names.{Kind, at, run, block, free_one, any_list, open_list, from, other, work, rest, off, step, steps, lead, duty, day, start, dots, lead_rules, lead_of, lead_kind, no_letters, leaves, kept_rule, early_days, change_in, plain, copies, spells_of, others, kind_of, symbols_of, duty_rule, at_rule, from_rule, block_rule, longer_rules, block_rules, touch_rules, any_rules, open_rules, work_rules, opened, numbers_from, length_rule, has_few, rest_rules, rest_kind, chosen, is_bound, Free, IsSet, IsStretchSet, IsGoodPart, IsGoodDuty, rules_for, BlocksFrom, IsDutyOf, Means, IsUsed, rank}
 use Rattle.plan_laws.specs.Spells.{Spell}
 use Rattle.plan_laws.proofs.SpellLemmas.{Tells, spells_tell, in_spell}
 use Rattle.plan_laws.proofs.Trees.{each_in}
@@ -103,6 +103,19 @@ module _ (p : PeriodPlan) (free : Free) (plus : ℕ) where
       single : (i : ℕ) → letter_cost p plus a.code i ≡ word_cost p plus i (a.code ∷ [])
       single i = let e = word_cost-one p plus i a.code [] in let n = word_cost-none p plus (i + 1) in omega (arith, e, n)
 
+  longer_up : (a : Activity) → IsLine p a → (more : Bool) → Each (Keeps p free (block plus a)) (longer_rules plus more a)
+  longer_up a line true = (
+    record {
+      closed = (line, (line, tt));
+      up = λ i w c within fits m. let t = two_parts (Means p free) (at plus a) (block plus a) i w c m in
+          let r = more_letters (block plus a) a i w c t 0 t.means_right.0.alone t.means_right.1 in
+          (c, (record { alone = r.0; least = omega (arith, fits.span.0); greatest = fits.span.1 }, r.2), omega arith);
+      lower = low 2 (named (at plus a) ∷ named (block plus a) ∷ []) (omega arith);
+    },
+    tt,
+  )
+  longer_up a line false = tt
+
   block_up : (a : Activity) → IsLine p a → (short : Bool) → Each (Keeps p free (block plus a)) (block_rules plus short a)
   block_up a line true = (
     record {
@@ -111,16 +124,7 @@ module _ (p : PeriodPlan) (free : Free) (plus : ℕ) where
           (c, (record { alone = r.0; least = omega (arith, r.1); greatest = omega (arith, r.1, line.ordered) }, r.2), omega arith);
       lower = low 2 (copies a.least (at plus a)) (omega (arith, copies_low a a.least));
     },
-    (
-      record {
-        closed = (line, (line, tt));
-        up = λ i w c within fits m. let t = two_parts (Means p free) (at plus a) (block plus a) i w c m in
-            let r = more_letters (block plus a) a i w c t 0 t.means_right.0.alone t.means_right.1 in
-            (c, (record { alone = r.0; least = omega (arith, fits.span.0); greatest = fits.span.1 }, r.2), omega arith);
-        lower = low 2 (named (at plus a) ∷ named (block plus a) ∷ []) (omega arith);
-      },
-      tt,
-    ),
+    longer_up a line (nat_le (a.least + 1) a.greatest),
   )
   block_up a line false = (
     record {

@@ -198,16 +198,20 @@ abbrev pub any_rules : PeriodPlan → ℕ → List Activity → List Activity �
 any_rules p r s frees [] = touch_rules p r s
 any_rules p r s frees (b ∷ bs) = open_rules r s frees ++ map (from_rule r s) (b ∷ bs)
 
--- a block is its least letters and more of them, or a run where those are more than a rule can have
-abbrev pub block_rules : ℕ → Bool → Activity → List (NamedRule Kind)
-block_rules r true a =
-    plain 0 (copies a.least (at r a))
-    ∷ record (plain 0 (named (at r a) ∷ named (block r a) ∷ [])) {
+-- a letter more, where a block may have more than its least letters
+abbrev pub longer_rules : ℕ → Bool → Activity → List (NamedRule Kind)
+longer_rules r true a = record
+    (plain 0 (named (at r a) ∷ named (block r a) ∷ [])) {
       span = record {
         lo = a.least + 1;
         hi = a.greatest;
       };
     } ∷ []
+longer_rules r false a = []
+
+-- a block is its least letters and more of them, or a run where those are more than a rule can have
+abbrev pub block_rules : ℕ → Bool → Activity → List (NamedRule Kind)
+block_rules r true a = plain 0 (copies a.least (at r a)) ∷ longer_rules r (nat_le (a.least + 1) a.greatest) a
 block_rules r false a = record
     (plain 0 (named (run r a) ∷ [])) { span = record { lo = a.least; hi = a.greatest } } ∷ []
 
