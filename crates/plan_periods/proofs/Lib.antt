@@ -1,0 +1,3 @@
+pub mod ItemByItem
+pub mod FirstStarts
+pub mod Sets
