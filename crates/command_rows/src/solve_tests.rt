@@ -41,6 +41,7 @@ failed 0
 rules: line 9: len 2 3, but the last period is 1
 rules: there is no shift
 heads: at least 1, but the rules have no shift
+how much is missing, relax-rules RULES and relax-demand RULES DEMAND floors tell, or ceilings
 > solve one any p 10
 < 0
 report 1
@@ -87,6 +88,7 @@ result none
 cost none
 bound none
 !
+how much is missing, relax-rules RULES and relax-demand RULES DEMAND floors tell, or ceilings
 > solve g2 crowd p 10
 < 1
 report 1
@@ -97,6 +99,7 @@ processed 1
 failed 0
 !
 floor a period 1: 4, at most 3
+how much is missing, relax-rules RULES and relax-demand RULES DEMAND floors tell, or ceilings
 > solve g6 q7 p 2047
 < 0 ..
 report 2
@@ -120,6 +123,7 @@ failed 0
 rules: line 5: no shift uses this rule
 rules: line 7: no shift uses the name F
 group F: at least 1, but the rules have no shift of it
+how much is missing, relax-rules RULES and relax-demand RULES DEMAND floors tell, or ceilings
 > solve many many_needs p 10
 < 0 ..
 report 1
