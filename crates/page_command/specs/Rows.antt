@@ -1,5 +1,5 @@
 -- The rows of the chart of shifts, and their derivations.
-use Rattle.std.specs.Prelude.{ℕ, ◌≡◌, ◌+◌, ◌-◌, Bool, ◌&&◌, not, None, Some, List, [], ◌∷◌, is_none, length, take, nat_eq, nat_lt, slice_get, count_by, if◌then◌else◌}
+use Rattle.std.specs.Prelude.{ℕ, ◌+◌, ◌-◌, Bool, ◌&&◌, not, None, Some, List, [], ◌∷◌, is_none, length, take, nat_eq, nat_lt, slice_get, count_by, if◌then◌else◌}
 use Rattle.std.specs.List.{flat_map, list_any}
 use Rattle.std.specs.Str.{bytes_eq}
 use Rattle.roster_model.specs.declared.grammar.Grammar.{Grammar}
