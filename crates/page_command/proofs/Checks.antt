@@ -36,8 +36,8 @@ use Rattle.page_command.specs.Judgement as judgement
 use Rattle.page_command.specs.Old.{RefusedOld, SaysOldFault, old_of}
 use Rattle.page_command.specs.Report.{LineAnswers, ReportAnswers, RosterAnswers, is_report}
 use Rattle.page_command.specs.Report as report
-use Rattle.page_command.specs.Shown.{Showing, certified, stated}
-use Rattle.page_command.specs.declared.kind.Kind.{Kind}
+use Rattle.roster_views.specs.Shown.{Showing, certified, stated}
+use Rattle.roster_views.specs.declared.kind.Kind.{Kind}
 
 -- the text tells a certificate that is accepted, where the verdict is a yes
 pub yes-accepted : (i : Instance) (text : List ℕ) (cost bound : Option ℕ) → IsJudged i text (Said (Yes cost bound)) → (c : Cert) × (proof_of i text ≡ Ok c) × Accepts i c

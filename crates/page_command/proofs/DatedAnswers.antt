@@ -6,12 +6,12 @@ use Rattle.page_labels.specs.LabelsOf.{labels_of}
 use Rattle.page_labels.specs.declared.clock.Clock.{Clock}
 use Rattle.page_labels.specs.declared.labels.Labels.{Labels}
 use Rattle.answers.specs.declared.answer.Answer.{Answer}
-use Rattle.page_command.specs.declared.kind.CalendarDay.{CalendarDay}
+use Rattle.roster_views.specs.declared.kind.CalendarDay.{CalendarDay}
 use Rattle.page_command.specs.Check.{RefusedLabels}
 use Rattle.page_command.specs.Dated.{CalendarAnswers, ClockAnswers, no_clock_line, events_on}
 use Rattle.page_command.specs.Dated as dated
 use Rattle.page_command.specs.Report.{LineAnswers, RosterAnswers}
-use Rattle.page_command.specs.declared.kind.Kind.TheVariants.{Calendar}
+use Rattle.roster_views.specs.declared.kind.Kind.TheVariants.{Calendar}
 
 pub clock-told : (day : CalendarDay) (d : Labels) (c : Clock) (i : Instance) (text : List ℕ) (r : Result Answer Memory) → d.clock ≡ Some c
     → IfOk r (λ a. RosterAnswers (Calendar (events_on day c)) d None i text a.status a.output)

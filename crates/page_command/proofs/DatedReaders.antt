@@ -7,7 +7,7 @@ use Rattle.answers.specs.Fronts.{front-cases}
 use Rattle.answers.proofs.AskedFronts.{texts-map, long-texts-demand, long-texts-rules}
 use Rattle.answers.specs.Reader.{IsReader}
 use Rattle.answers.proofs.Readers.{after_fetch, widen}
-use Rattle.page_command.specs.declared.kind.CalendarDay.{CalendarDay}
+use Rattle.roster_views.specs.declared.kind.CalendarDay.{CalendarDay}
 use Rattle.page_command.specs.Dated.{AnswersDated, AnswersDatedLabels, AnswersDatedTexts, CalendarAnswers}
 use Rattle.page_command.specs.DatedFronts.{calendar-labels-whole}
 

@@ -22,8 +22,8 @@ use Rattle.answers.proofs.Readers.{after_fetch, widen}
 use Rattle.page_command.specs.Check.{AnswersBeside, AnswersBesideRules, AnswersDemand, AnswersLabelled, AnswersLabelsText, AnswersOldText, AnswersRequest, AnswersShown, Request, RequestAnswers, kind_by, requested}
 use Rattle.page_command.specs.Check as check
 use Rattle.page_command.specs.Fronts.{long-labels-whole, long-old-whole}
-use Rattle.page_command.specs.declared.kind.FirstWord.{FirstWord}
-use Rattle.page_command.specs.declared.kind.FirstWord.TheVariants.{Page}
+use Rattle.roster_views.specs.declared.kind.FirstWord.{FirstWord}
+use Rattle.roster_views.specs.declared.kind.FirstWord.TheVariants.{Page}
 
 -- a text that was fetched up to a limit, and what is answered by its first bytes
 module _ (A : List ℕ → Option Texts → ℕ → List ℕ → Type 0) (B : Option Texts → ℕ → List ℕ → Type 0) (most : ℕ) (name front : List ℕ) (names : List (List ℕ)) where

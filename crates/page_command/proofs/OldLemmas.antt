@@ -20,7 +20,7 @@ use Rattle.roster_value.specs.stated_rosters.RosterOf.{roster_of}
 use Rattle.roster_value.specs.declared.stated_rosters.fault.RosterFault.{RosterFault}
 use Rattle.text_lines.proofs.ListLemmas.{at_least}
 use Rattle.text_lines.specs.Places.{place_text}
-use Rattle.page_command.specs.Draw.{IsOldRoster}
+use Rattle.roster_views.specs.Draw.{IsOldRoster}
 use Rattle.page_command.specs.Old.{Reads, is_wrong, of_proof, of_report, old_line, whole_of}
 use Rattle.page_command.specs.declared.old_fault.OldFault.{OldFault}
 use Rattle.page_command.specs.declared.old_fault.OldFault.TheVariants.{WrongLength}

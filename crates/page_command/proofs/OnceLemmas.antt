@@ -35,13 +35,13 @@ use Rattle.page_labels.specs.LabelsOf.{labels_of}
 use Rattle.page_labels.specs.declared.fault.LabelFault.{LabelFault}
 use Rattle.page_labels.specs.declared.clock.Clock.{Clock}
 use Rattle.page_labels.specs.declared.labels.Labels.{Labels}
-use Rattle.page_command.specs.declared.kind.CalendarDay.{CalendarDay}
+use Rattle.roster_views.specs.declared.kind.CalendarDay.{CalendarDay}
 use Rattle.text_commands.specs.what_if.Value.{SaysRosterFault}
 use Rattle.page_command.specs.Check.{AnswersBeside, AnswersDemand, AnswersLabelled, AnswersRequest, AnswersShown, BesideAnswers, LabelAnswers, OldAnswers, RefusedLabels, Request, RequestAnswers, UnderAnswers, kind_by, requested}
 use Rattle.page_command.specs.Check as answers
 use Rattle.page_command.specs.Dated.{AnswersDated, CalendarAnswers, ClockAnswers, no_clock_line, events_on}
 use Rattle.page_command.specs.Dated as dated
-use Rattle.page_command.specs.Draw.{IsPage}
+use Rattle.roster_views.specs.Draw.{IsPage}
 use Rattle.page_command.specs.Judgement.{Judgement, StatedJudgement}
 use Rattle.page_command.specs.Judgement as judgement
 use Rattle.page_command.specs.Old.{RefusedOld, old_of}
@@ -49,17 +49,17 @@ use Rattle.page_command.specs.Old as old_text
 use Rattle.page_command.specs.declared.old_fault.OldFault.{OldFault}
 use Rattle.page_command.specs.Report.{IsRead, LineAnswers, ReportAnswers, RosterAnswers, SaysTextFault, is_report}
 use Rattle.page_command.specs.Report as report
-use Rattle.page_command.specs.Shown.{IsShown, Showing, certified, line_instead, stated}
-use Rattle.page_command.specs.Shown as showing
-use Rattle.page_command.specs.declared.kind.FirstWord.{FirstWord}
-use Rattle.page_command.specs.declared.kind.FirstWord.TheVariants as words
-use Rattle.page_command.specs.declared.kind.Kind.{Kind}
-use Rattle.page_command.specs.declared.kind.Kind.TheVariants.{Page, Table, Coverage, Calendar}
-use Rattle.page_command.specs.declared.roster.ShownRoster.{ShownRoster}
+use Rattle.roster_views.specs.Shown.{IsShown, Showing, certified, line_instead, stated}
+use Rattle.roster_views.specs.Shown as showing
+use Rattle.roster_views.specs.declared.kind.FirstWord.{FirstWord}
+use Rattle.roster_views.specs.declared.kind.FirstWord.TheVariants as words
+use Rattle.roster_views.specs.declared.kind.Kind.{Kind}
+use Rattle.roster_views.specs.declared.kind.Kind.TheVariants.{Page, Table, Coverage, Calendar}
+use Rattle.roster_views.specs.declared.roster.ShownRoster.{ShownRoster}
 use Rattle.page_command.specs.OnePage.{AreSameButTrees, AreTreesOfRows, ArePagesButTrees}
-use Rattle.page_command.specs.Rows.{AreDerived, IsDerived, rows_of, rules_of}
-use Rattle.page_command.specs.declared.sums.Sums.{Sums}
-use Rattle.page_command.specs.declared.compare.Comparison.{Comparison}
+use Rattle.roster_views.specs.Rows.{AreDerived, IsDerived, rows_of, rules_of}
+use Rattle.roster_views.specs.declared.sums.Sums.{Sums}
+use Rattle.roster_views.specs.declared.compare.Comparison.{Comparison}
 use Rattle.page_command.proofs.OneComparison.{compared_once}
 
 -- equal statuses, and texts that are the same but for the trees of derivations

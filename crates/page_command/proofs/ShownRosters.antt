@@ -17,11 +17,11 @@ use Rattle.roster_value.specs.declared.valued.Valued.{Valued}
 use Rattle.answers.specs.declared.answer.Answer.{Answer}
 use Rattle.answers.proofs.OneReading.{same_ok}
 use Rattle.page_labels.specs.declared.labels.Labels.{Labels}
-use Rattle.page_command.specs.Draw.{IsSoundShown}
-use Rattle.page_command.specs.Shown.{IsShown, Showing, certified, line_instead, stated}
-use Rattle.page_command.specs.Shown as showing
-use Rattle.page_command.specs.declared.kind.Kind.{Kind}
-use Rattle.page_command.specs.declared.roster.ShownRoster.{ShownRoster}
+use Rattle.roster_views.specs.Draw.{IsSoundShown}
+use Rattle.roster_views.specs.Shown.{IsShown, Showing, certified, line_instead, stated}
+use Rattle.roster_views.specs.Shown as showing
+use Rattle.roster_views.specs.declared.kind.Kind.{Kind}
+use Rattle.roster_views.specs.declared.roster.ShownRoster.{ShownRoster}
 
 -- the roster of a sound certificate that is as it states
 pub sound-certified : (i : Instance) (c : Cert) → IsSoundCert i c → IfSome c.cost (IsStated i c.shifts) → IsSoundShown i (certified c)

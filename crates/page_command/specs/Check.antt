@@ -14,13 +14,13 @@ use Rattle.shelf.specs.Shelf.{Texts}
 use Rattle.answers.specs.Asked.{DemandAnswers}
 use Rattle.answers.specs.Reader.{Holds}
 use Rattle.answers.specs.Readings.{IsGrammarOf, SaysFault}
-use Rattle.page_command.specs.Kinds.{kind_for}
+use Rattle.roster_views.specs.Kinds.{kind_for}
 use Rattle.page_command.specs.Old.{RefusedOld, old_of}
 use Rattle.page_command.specs.Report.{LineAnswers, RosterAnswers}
-use Rattle.page_command.specs.Sums.{sums_of}
-use Rattle.page_command.specs.declared.kind.FirstWord.{FirstWord}
-use Rattle.page_command.specs.declared.kind.FirstWord.TheVariants.{Page}
-use Rattle.page_command.specs.declared.kind.Kind.{Kind}
+use Rattle.roster_views.specs.Sums.{sums_of}
+use Rattle.roster_views.specs.declared.kind.FirstWord.{FirstWord}
+use Rattle.roster_views.specs.declared.kind.FirstWord.TheVariants.{Page}
+use Rattle.roster_views.specs.declared.kind.Kind.{Kind}
 
 -- status 5: the labels text is refused
 pub record SaysLabelFault (i : Instance) (text output : List ℕ) : Type 0 where

@@ -8,11 +8,11 @@ use Rattle.page_labels.specs.declared.labels.Labels.{Labels}
 use Rattle.shelf.specs.Shelf.{Texts}
 use Rattle.answers.specs.Asked.{TextsAnswers}
 use Rattle.answers.specs.Reader.{Holds}
-use Rattle.page_command.specs.declared.kind.CalendarDay.{CalendarDay}
+use Rattle.roster_views.specs.declared.kind.CalendarDay.{CalendarDay}
 use Rattle.page_command.specs.Check.{RefusedLabels}
 use Rattle.page_command.specs.Report.{LineAnswers, RosterAnswers}
-use Rattle.page_command.specs.declared.kind.DayEvents.{DayEvents}
-use Rattle.page_command.specs.declared.kind.Kind.TheVariants.{Calendar}
+use Rattle.roster_views.specs.declared.kind.DayEvents.{DayEvents}
+use Rattle.roster_views.specs.declared.kind.Kind.TheVariants.{Calendar}
 
 -- what is said where a labels text tells no clock
 abbrev pub no_clock_line : List ℕ

@@ -26,7 +26,7 @@ use Rattle.page_command.specs.Judgement.{Judgement}
 use Rattle.page_command.specs.Old.{RefusedOld, of_proof, of_report, old_of}
 use Rattle.page_command.specs.Report.{IsRead, LineAnswers, RosterAnswers, SaysTextFault, is_report}
 use Rattle.page_command.specs.Report as report
-use Rattle.page_command.specs.declared.kind.Kind.{Kind}
+use Rattle.roster_views.specs.declared.kind.Kind.{Kind}
 use Rattle.page_command.specs.declared.old_fault.OldFault.{OldFault}
 
 -- a text over the limit is no report

@@ -12,8 +12,8 @@ use Rattle.roster_value.specs.declared.valued.Valued.{Valued}
 use Rattle.roster_value.specs.Answers.{SaysCauses}
 use Rattle.roster_value.specs.Values.{IsValued}
 use Rattle.text_commands.specs.Check.{SaysNo}
-use Rattle.page_command.specs.Shown.{Showing, certified, stated}
-use Rattle.page_command.specs.declared.kind.Kind.{Kind}
+use Rattle.roster_views.specs.Shown.{Showing, certified, stated}
+use Rattle.roster_views.specs.declared.kind.Kind.{Kind}
 
 -- the certificate is accepted, what it states is true, and its roster is shown under labels, beside an old
 -- one where there is one, or a line is said in its place

@@ -1,9 +1,3 @@
-pub mod Sums
-pub mod Kinds
-pub mod Compared
-pub mod Rows
-pub mod Draw
-pub mod Shown
 pub mod Judgement
 pub mod Report
 pub mod Old

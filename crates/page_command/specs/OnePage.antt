@@ -9,8 +9,8 @@ use Rattle.shelf.specs.Shelf.{Texts}
 use Rattle.derived_rules.specs.RuledTrees.{AreRuledAtOnePrice}
 use Rattle.page_command.specs.Check.{AnswersBeside, AnswersLabelled, AnswersShown}
 use Rattle.page_command.specs.Dated.{AnswersDated}
-use Rattle.page_command.specs.declared.kind.FirstWord.{FirstWord}
-use Rattle.page_command.specs.declared.kind.CalendarDay.{CalendarDay}
+use Rattle.roster_views.specs.declared.kind.FirstWord.{FirstWord}
+use Rattle.roster_views.specs.declared.kind.CalendarDay.{CalendarDay}
 
 -- for each row two derivations of its word, at one price
 abbrev pub AreTreesOfRows : List Row → List (List ℕ) → List (List ℕ) → Type 0

@@ -11,7 +11,7 @@ use Rattle.answers.specs.Asked.{ProofAnswers}
 use Rattle.answers.specs.Readings.{SaysProofFault}
 use Rattle.text_commands.specs.what_if.Value.{SaysRosterFault}
 use Rattle.page_command.specs.Judgement.{Judgement, StatedJudgement}
-use Rattle.page_command.specs.declared.kind.Kind.{Kind}
+use Rattle.roster_views.specs.declared.kind.Kind.{Kind}
 
 -- the first line is that of a report, and the text has no more bytes than a proof text may have
 unfoldable pub is_report : List ℕ → Bool

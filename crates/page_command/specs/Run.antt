@@ -5,12 +5,12 @@ use Rattle.shelf.specs.Shelf.{Told}
 use Rattle.text_lines.specs.Fields.{number_at}
 use Rattle.roster_csv.specs.roster_calendar.Dates.{date_of}
 use Rattle.roster_csv.specs.declared.roster_calendar.date.Date.{Date}
-use Rattle.page_command.specs.declared.kind.CalendarDay.{CalendarDay}
+use Rattle.roster_views.specs.declared.kind.CalendarDay.{CalendarDay}
 use Rattle.page_command.specs.Check.{AnswersBeside, AnswersLabelled, AnswersShown}
 use Rattle.page_command.specs.Dated.{AnswersDated}
 use Rattle.answers.specs.Reader.{IsReader}
-use Rattle.page_command.specs.declared.kind.FirstWord.{FirstWord}
-use Rattle.page_command.specs.declared.kind.FirstWord.TheVariants.{Page, Table, Coverage}
+use Rattle.roster_views.specs.declared.kind.FirstWord.{FirstWord}
+use Rattle.roster_views.specs.Kinds.{first_word}
 
 -- what is said of other words
 abbrev pub no_form_line : List ℕ
@@ -30,13 +30,6 @@ pub data Form : Type 0 where
   beside : List ℕ → List ℕ → List ℕ → List ℕ → List ℕ → Form
   dated : CalendarDay → List ℕ → List ℕ → List ℕ → List ℕ → Form
   none : Form
-
--- what the first word asks for
-unfoldable pub first_word : List ℕ → Option FirstWord
-first_word w =
-    if bytes_eq w (codes "page") then Some Page
-    else (if bytes_eq w (codes "table") then Some Table
-    else (if bytes_eq w (codes "coverage") then Some Coverage else None))
 
 -- what the first word asks for and the names of a rules text, a demand text and a proof text
 abbrev pub shown_form : Option FirstWord → List ℕ → List ℕ → List ℕ → Form

@@ -14,12 +14,12 @@ use Rattle.page_command.specs.Judgement.{Judgement, StatedJudgement}
 use Rattle.page_command.specs.Judgement as judgement
 use Rattle.page_command.specs.Report.{LineAnswers, ReportAnswers, RosterAnswers}
 use Rattle.page_command.specs.Report as report
-use Rattle.page_command.specs.Shown.{Showing, certified, stated}
-use Rattle.page_command.specs.Shown as showing
-use Rattle.page_command.specs.declared.kind.Kind.{Kind}
-use Rattle.page_command.specs.declared.kind.Kind.TheVariants.{Calendar}
-use Rattle.page_command.specs.declared.roster.ShownRoster.{ShownRoster}
-use Rattle.page_command.specs.declared.kind.CalendarDay.{CalendarDay}
+use Rattle.roster_views.specs.Shown.{Showing, certified, stated}
+use Rattle.roster_views.specs.Shown as showing
+use Rattle.roster_views.specs.declared.kind.Kind.{Kind}
+use Rattle.roster_views.specs.declared.kind.Kind.TheVariants.{Calendar}
+use Rattle.roster_views.specs.declared.roster.ShownRoster.{ShownRoster}
+use Rattle.roster_views.specs.declared.kind.CalendarDay.{CalendarDay}
 
 showing-ends : (k : Kind) (d : Labels) (i : Instance) (r : ShownRoster) (old : Option (List Shift)) (s : ℕ)
     (output : List ℕ) → Showing k d i r old s output → (s ≢ 6) × (s ≢ 7)

@@ -5,18 +5,15 @@ ghost use Rattle.certificates.specs.Sound.{IsSoundCert};
 ghost use Rattle.certificates.specs.declared.cert.Cert.{Cert as Certificate};
 ghost use Rattle.proof_pieces.specs.CertOf.{proof_of};
 ghost use Rattle.roster_model.specs.SoundInstance.{IsSoundInstance};
-ghost use Rattle.page_command.specs.Draw.{IsOldRoster, IsSoundShown};
-ghost use Rattle.page_command.specs.Shown.{IsShown, Showing, certified};
+ghost use Rattle.roster_views.specs.Draw.{IsOldRoster, IsSoundShown};
+ghost use Rattle.roster_views.specs.Shown.{IsShown, Showing, certified};
 
-use crate::draw::shown;
-use crate::instead::line_instead;
-use crate::kind::Kind;
-use crate::roster::{ShownRoster, certified};
 use answers::Answer;
 use certificate_text::{ProofFault, read_cert};
 use certificates::Cert;
 use page_labels::Labels;
 use roster_model::{Instance, Memory, Shift};
+use roster_views::{Kind, ShownRoster, certified, line_instead, shown};
 use std::alloc::Global;
 
 // Says what shows a roster under labels, beside an old one where there is one.

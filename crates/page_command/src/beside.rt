@@ -3,10 +3,10 @@ ghost use Rattle.answers.specs.Reader.{IsReader};
 ghost use Rattle.page_command.specs.Check.{AnswersBeside, AnswersBesideRules, AnswersOldText};
 
 use crate::asking::ask_request;
-use crate::kind::FirstWord;
 use crate::limits::{MOST_LABELS, MOST_OLD};
 use crate::request::Request;
 use answers::{MOST_RULES, fetched};
+use roster_views::FirstWord;
 use shelf::Shelf;
 use std::alloc::Global;
 

@@ -13,7 +13,6 @@ ghost use Rattle.page_command.specs.Check.{
 
 use crate::asking::ask_request;
 use crate::judgement::judgement;
-use crate::kind::{FirstWord, Kind};
 use crate::limits::MOST_LABELS;
 use crate::old::{read_old, refused_old};
 use crate::refused::refused_labels;
@@ -21,6 +20,7 @@ use crate::request::Request;
 use answers::{Answer, MOST_RULES, fetched};
 use page_labels::{Labels, read_labels};
 use roster_model::{Instance, Memory};
+use roster_views::{FirstWord, Kind};
 use shelf::Shelf;
 use std::alloc::Global;
 

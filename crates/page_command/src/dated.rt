@@ -11,13 +11,13 @@ ghost use Rattle.page_command.specs.Dated.{
 
 use crate::asking::ask_texts;
 use crate::judgement::judgement;
-use crate::kind::{CalendarDay, DayEvents, Kind};
 use crate::limits::MOST_LABELS;
 use crate::refused::{line_answer, refused_labels};
 use answers::{Answer, MOST_DEMAND, MOST_PROOF, MOST_RULES, Question, fetched};
 use page_labels::{Labels, read_labels};
 use roster_csv::Setting;
 use roster_model::{Instance, Memory};
+use roster_views::{CalendarDay, DayEvents, Kind};
 use shelf::Shelf;
 use std::alloc::Global;
 

@@ -3,7 +3,6 @@ ghost use Rattle.page_command.specs.Run.{
   form_for,
   form_of,
   form_on,
-  first_word,
   labelled_form,
   last_form,
   shift_form,
@@ -11,9 +10,10 @@ ghost use Rattle.page_command.specs.Run.{
   shown_form,
 };
 ghost use Rattle.page_command.specs.Asked.{asked};
+ghost use Rattle.roster_views.specs.Kinds.{first_word};
 
-use crate::kind::{CalendarDay, FirstWord, first_word};
 use roster_csv::{Date, date_of};
+use roster_views::{CalendarDay, FirstWord, first_word};
 use text_lines::read_within;
 
 /// What the words of the command line ask for.

@@ -3,18 +3,18 @@ ghost use Rattle.std.specs.Option.{option_copied};
 ghost use Rattle.roster_model.specs.SoundInstance.{IsSoundInstance};
 ghost use Rattle.answer_texts.specs.VerdictText.{verdict_text};
 ghost use Rattle.answers.specs.Asked.{ProofAnswers};
-ghost use Rattle.page_command.specs.Draw.{IsOldRoster};
+ghost use Rattle.roster_views.specs.Draw.{IsOldRoster};
 ghost use Rattle.page_command.specs.Judgement.{Judgement};
 ghost use Rattle.page_command.specs.Report.{RosterAnswers};
 
 use crate::accepted::accepted_answer;
-use crate::kind::Kind;
 use crate::report::{is_report, report_answer};
 use answers::{Answer, proof_refusal};
 use certificates::{Verdict, Why};
 use page_labels::Labels;
 use proof_check::Judged;
 use roster_model::{Instance, Memory, Shift};
+use roster_views::Kind;
 use std::alloc::Global;
 use text_commands::check::{judged, verdict_answer};
 

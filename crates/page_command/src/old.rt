@@ -3,7 +3,7 @@ ghost use Rattle.roster_model.specs.Folds.{Each};
 ghost use Rattle.roster_model.specs.SoundInstance.{IsSoundInstance};
 ghost use Rattle.proof_pieces.specs.CertOf.{proof_of};
 ghost use Rattle.roster_value.specs.stated_rosters.RosterOf.{roster_of};
-ghost use Rattle.page_command.specs.Draw.{IsOldRoster};
+ghost use Rattle.roster_views.specs.Draw.{IsOldRoster};
 ghost use Rattle.page_command.specs.Old.{Reads, RefusedOld, is_wrong, of_proof, of_report, old_of, whole_of};
 
 use crate::old_fault::{OldFault, fault_line};

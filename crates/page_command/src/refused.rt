@@ -5,12 +5,12 @@ ghost use Rattle.page_command.specs.Check.{RefusedLabels};
 ghost use Rattle.page_command.specs.Report.{LineAnswers, is_report};
 
 use crate::report::is_report;
-use crate::rows::copied;
 use answers::{Answer, proof_refusal};
 use page_labels::{LabelFault, fault_line};
 use proof_check::Judged;
 use roster_model::{Instance, Memory};
 use roster_value::read_roster;
+use roster_views::copied;
 use std::alloc::Global;
 use text_commands::check::judged;
 use text_commands::what_if::value::roster_refusal;

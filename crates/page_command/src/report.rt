@@ -2,17 +2,16 @@ ghost use Rattle.std.specs.Prelude.{◌≡◌, IfOk, IfSome};
 ghost use Rattle.std.specs.Option.{option_copied};
 ghost use Rattle.roster_model.specs.SoundInstance.{IsSoundInstance};
 ghost use Rattle.roster_value.specs.stated_rosters.RosterOf.{IsSoundRoster};
-ghost use Rattle.page_command.specs.Draw.{IsOldRoster};
+ghost use Rattle.roster_views.specs.Draw.{IsOldRoster};
 ghost use Rattle.page_command.specs.Judgement.{StatedJudgement};
 ghost use Rattle.page_command.specs.Report.{ReportAnswers, is_report};
 
 use crate::accepted::shown_answer;
-use crate::kind::Kind;
-use crate::roster::stated;
 use answers::Answer;
 use page_labels::Labels;
 use roster_model::{Instance, Memory, Shift};
 use roster_value::{Judged, begins_report, judge, read_roster};
+use roster_views::{Kind, stated};
 use std::alloc::Global;
 use text_commands::what_if::value::{roster_refusal, value_of};
 

@@ -5,11 +5,10 @@ ghost use Rattle.page_command.specs.Check.{RequestAnswers, UnderAnswers, kind_by
 ghost use Rattle.page_command.specs.Requests.{request_of};
 
 use crate::check::{answer_under, answer_with};
-use crate::kind::{FirstWord, Kind, kind_for};
-use crate::sums::sums_of;
 use answers::{Answer, MOST_PROOF, Question};
 use page_labels::no_labels;
 use roster_model::{Instance, Memory};
+use roster_views::{FirstWord, Kind, kind_for, sums_of};
 use std::alloc::Global;
 
 /// What is asked, and the texts that are read before the demand text.

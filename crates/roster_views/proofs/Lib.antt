@@ -1,0 +1,7 @@
+mod Starts
+mod PricedRows
+mod DerivedLemmas
+mod Columns
+mod RowLemmas
+mod CompareLemmas
+mod Contents
