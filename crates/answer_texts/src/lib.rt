@@ -7,5 +7,5 @@ mod tree;
 mod verdict;
 mod write;
 
-pub use tree::write_tree;
+pub use tree::{write_tree, write_use};
 pub use verdict::write_verdict;

@@ -19,8 +19,12 @@ fn left_name<'a>(grammar: &'a Grammar, rule: u8) -> &'a [u8]
     grammar.names.as_slice()[rule.left as usize].as_slice()
 }
 
-// Appends the line of a rule use.
-fn write_use(out: &mut List<u8>, grammar: &Grammar, step: &Step) -> Result<(), Memory>
+/// Appends the line of a rule use: `use R NAME START LENGTH`, where NAME is the left side of rule R.
+///
+/// # Errors
+///
+/// `Memory` where memory runs out; a part of the line may stand then.
+pub fn write_use(out: &mut List<u8>, grammar: &Grammar, step: &Step) -> Result<(), Memory>
     requires sound { IsSound grammar.now }
     requires exists { HasRule grammar.now step.now.rule }
     ensures { OnOk result (out.new ≡ out.old ++ written (use_line grammar.now step.now ∷ [])) }

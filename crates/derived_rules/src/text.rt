@@ -1,16 +1,15 @@
 ghost use Rattle.std.specs.Prelude.{◌≡◌, ◌∷◌, [], ◌++◌, All, IfOk, OnOk, Some, length};
-ghost use Rattle.answer_texts.specs.TreeText.{HasRule, left_name, use_line};
+ghost use Rattle.answer_texts.specs.TreeText.{HasRule};
 ghost use Rattle.derived_rules.specs.RuledTrees.{ruled_text, use_lines};
 ghost use Rattle.roster_model.specs.Grammar.{rule_at};
 ghost use Rattle.roster_model.specs.Sound.{IsRule, IsSound};
 ghost use Rattle.roster_model.specs.declared.grammar.Step.{Step};
 ghost use Rattle.text_lines.specs.Written.{written};
 
-use answer_texts::write_tree;
+use answer_texts::{write_tree, write_use};
 use roster_model::{Grammar, List, Memory, Rule, Step};
 use rules_text::append_rule;
 use std::alloc::Global;
-use text_lines::{field, put, word};
 
 // Returns the rule with a number.
 fn rule_at<'a>(grammar: &'a Grammar, number: u8) -> &'a Rule
@@ -22,37 +21,13 @@ fn rule_at<'a>(grammar: &'a Grammar, number: u8) -> &'a Rule
     &grammar.rules.as_slice()[number as usize - 1]
 }
 
-// Returns the name on the left side of a rule.
-fn left_name<'a>(grammar: &'a Grammar, number: u8) -> &'a [u8]
-    requires sound { IsSound grammar.now }
-    requires exists { HasRule grammar.now number }
-    ensures { result.now ≡ left_name grammar.now number }
-{
-    let rule = &grammar.rules.as_slice()[number as usize - 1];
-    grammar.names.as_slice()[rule.left as usize].as_slice()
-}
-
-// Appends the line of a rule use.
-fn append_use(out: &mut List<u8>, grammar: &Grammar, step: &Step) -> Result<(), Memory>
-    requires sound { IsSound grammar.now }
-    requires exists { HasRule grammar.now step.now.rule }
-    ensures { OnOk result (out.new ≡ out.old ++ written (use_line grammar.now step.now ∷ [])) }
-{
-    put(out, b"use")?;
-    field(out, u64::from(step.rule))?;
-    word(out, left_name(grammar, step.rule))?;
-    field(out, u64::from(step.start))?;
-    field(out, u64::from(step.len))?;
-    out.push(b'\n')
-}
-
 // Appends the line of a rule use, and behind it that of the rule.
 fn append_lines(out: &mut List<u8>, grammar: &Grammar, step: &Step) -> Result<(), Memory>
     requires sound { IsSound grammar.now }
     requires exists { HasRule grammar.now step.now.rule }
     ensures { OnOk result (out.new ≡ out.old ++ written (use_lines grammar.now step.now)) }
 {
-    append_use(out, grammar, step)?;
+    write_use(out, grammar, step)?;
     let rule = rule_at(grammar, step.rule);
     append_rule(
         out,
