@@ -1,9 +1,7 @@
-use crate::dive::{Dive, HoleEnd};
-use crate::graph::Site;
 use crate::ranking::Ranking;
-use crate::roster::HoleRoster;
 use crate::sizes::HoleSize;
-use crate::tree::HoleTree;
+use hole_dives::{Dive, HoleEnd};
+use hole_passes::{HoleRoster, HoleTree, Site};
 use roster_model::Memory;
 use search_watch::Watch;
 use std::alloc::Global;

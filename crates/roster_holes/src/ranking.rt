@@ -1,8 +1,5 @@
 use crate::drawing::Draws;
-use crate::floats::{short, whole};
-use crate::roster::HoleRoster;
-use crate::tree::HoleTree;
-use crate::weighing::weight;
+use hole_passes::{HoleRoster, HoleTree, short, weight, whole};
 use roster_model::{Cell, Instance, Memory};
 use std::alloc::Global;
 

@@ -1,17 +1,15 @@
 ghost use Rattle.std.specs.Prelude.{IfOk, IfSome};
 ghost use Rattle.roster_holes.specs.Found.{AreSoundShifts};
 
-use crate::dive::{Dive, HoleEnd};
 use crate::drawing::Draws;
-use crate::floats::{cost_of, whole};
-use crate::graph::{HoleGraph, Site};
 use crate::holes::{Budget, Tools, open_round, open_shaken};
 use crate::ranking::Ranking;
 use crate::rests::Rests;
-use crate::roster::HoleRoster;
 use crate::sound::sound_shifts;
 use crate::task::HoleTask;
 use crate::words::read_words;
+use hole_dives::{Dive, HoleEnd};
+use hole_passes::{HoleGraph, HoleRoster, Site, cost_of, whole};
 use parse_graph::Graph;
 use roster_model::{Instance, List, Memory, Prices, Shift};
 use search_watch::Watch;
@@ -177,6 +175,24 @@ fn work_of(site: Site, passes: u64) -> u64 {
     (site.graph.all.arcs.len() as u64).saturating_mul(passes)
 }
 
+/// Returns the budget of holes that may take so many passes and are opened in the order of a turn.
+fn begun(
+    site: Site,
+    task: &HoleTask,
+    turn: u32,
+    passes: u64,
+    patience: u32,
+    tools: &mut Tools,
+) -> Budget {
+    tools.ranking.draws = Draws::of_turn(turn);
+    Budget::new(
+        tools.dive.passer.work,
+        work_of(site, passes),
+        patience,
+        task.cost,
+    )
+}
+
 /// Returns how many passes holes may take at a later node.
 fn passes_at(turn: u32) -> u64 {
     let square = u64::from(turn).saturating_mul(u64::from(turn));
@@ -254,9 +270,14 @@ fn search_first<W: Watch>(
     let goal = cost_of(bound - SLACK).saturating_add(1).max(task.bound);
     let mut roster = roster_of(alloc, site, task.shifts, dive)?;
     dive_first(alloc, site, task.cost, goal, dive, &mut roster, watch)?;
-    tools.ranking.draws = Draws::of_turn(FIRST_DRAWS);
-    let work = work_of(site, PASSES_BEFORE);
-    let mut budget = Budget::new(tools.dive.passer.work, work, FIRST_PATIENCE, task.cost);
+    let mut budget = begun(
+        site,
+        task,
+        FIRST_DRAWS,
+        PASSES_BEFORE,
+        FIRST_PATIENCE,
+        tools,
+    );
     open_round(alloc, site, goal, &mut budget, tools, &mut roster, watch)?;
     Ok(roster)
 }
@@ -333,14 +354,12 @@ fn search_afresh<W: Watch>(
     tools: &mut Tools,
     watch: &W,
 ) -> Result<HoleRoster, Memory> {
-    let work = work_of(site, PASSES_FIRST);
-    let mut budget = Budget::new(tools.dive.passer.work, work, FIRST_PATIENCE, task.cost);
+    let mut budget = begun(site, task, task.turn, PASSES_FIRST, FIRST_PATIENCE, tools);
     let mut roster = HoleRoster::new(alloc, site.instance)?;
     let dive = &mut tools.dive;
     let goal = task.bound;
     turn_to_first(alloc, site, task, dive)?;
     dive_from_nothing(alloc, site, DIVES, goal, dive, &mut roster, watch)?;
-    tools.ranking.draws = Draws::of_turn(task.turn);
     open_round(alloc, site, goal, &mut budget, tools, &mut roster, watch)?;
     open_again(alloc, site, task, &mut budget, tools, &mut roster, watch)?;
     Ok(roster)
@@ -354,11 +373,9 @@ fn search_below<W: Watch>(
     tools: &mut Tools,
     watch: &W,
 ) -> Result<HoleRoster, Memory> {
-    let work = work_of(site, passes_at(task.turn));
-    let mut budget = Budget::new(tools.dive.passer.work, work, PATIENCE, task.cost);
+    let mut budget = begun(site, task, task.turn, passes_at(task.turn), PATIENCE, tools);
     tools.dive.widen(site)?;
     let mut roster = roster_of(alloc, site, task.shifts, &mut tools.dive)?;
-    tools.ranking.draws = Draws::of_turn(task.turn);
     let goal = task.bound;
     open_round(alloc, site, goal, &mut budget, tools, &mut roster, watch)?;
     Ok(roster)

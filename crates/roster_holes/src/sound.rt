@@ -3,9 +3,7 @@ ghost use Rattle.roster_model.specs.Folds.{Each};
 ghost use Rattle.certificates.specs.Sound.{IsWordByte, IsGroupNumber, IsSoundShift};
 ghost use Rattle.roster_holes.specs.Found.{AreSoundShifts};
 
-use crate::graph::HoleGraph;
-use crate::roster::HoleRoster;
-use crate::tree::HoleTree;
+use hole_passes::{HoleGraph, HoleRoster, HoleTree};
 use roster_model::{Group, Instance, List, Memory, Shift};
 use std::alloc::Global;
 

@@ -1,8 +1,4 @@
-use crate::floats::NEVER;
-use crate::graph::HoleGraph;
-use crate::passing::{Passer, Way};
-use crate::roster::HoleRoster;
-use crate::tree::HoleTree;
+use hole_passes::{HoleGraph, HoleRoster, HoleTree, NEVER, Passer, Way};
 use roster_model::{Memory, Shift};
 use std::alloc::Global;
 

@@ -1,9 +1,4 @@
-use crate::floats::{NEVER, NONE};
-use crate::graph::Site;
-use crate::part::Part;
-use crate::passing::{Passer, Way};
-use crate::roster::HoleRoster;
-use crate::tree::HoleTree;
+use hole_passes::{HoleRoster, HoleTree, NEVER, NONE, Part, Passer, Site, Way};
 use roster_model::Memory;
 use std::alloc::Global;
 
@@ -85,7 +80,7 @@ fn exchange_one(
 /// # Errors
 ///
 /// `Memory` where memory runs out.
-pub(crate) fn exchange(
+pub fn exchange(
     alloc: Global,
     site: Site,
     first: usize,

@@ -7,7 +7,7 @@ use std::alloc::Global;
 
 /// A roster of trees with how many work at each cell.
 #[derive(Drop)]
-pub(crate) struct HoleRoster {
+pub struct HoleRoster {
     pub trees: Vec<HoleTree>,
     pub counts: Vec<u32>,
 }
@@ -41,7 +41,7 @@ impl HoleRoster {
     /// # Errors
     ///
     /// `Memory` where memory runs out.
-    pub(crate) fn new(alloc: Global, instance: &Instance) -> Result<HoleRoster, Memory> {
+    pub fn new(alloc: Global, instance: &Instance) -> Result<HoleRoster, Memory> {
         let counts = vec![in alloc; 0u32; instance.cells.len()]?;
         Ok(HoleRoster {
             trees: Vec::new(alloc),
@@ -54,7 +54,7 @@ impl HoleRoster {
     /// # Errors
     ///
     /// `Memory` where memory runs out.
-    pub(crate) fn copied(&self, alloc: Global) -> Result<HoleRoster, Memory> {
+    pub fn copied(&self, alloc: Global) -> Result<HoleRoster, Memory> {
         let mut trees = Vec::new(alloc);
         for tree in self.trees.as_slice() {
             trees.push(tree.copied(alloc)?)?;
@@ -68,14 +68,14 @@ impl HoleRoster {
     /// # Errors
     ///
     /// `Memory` where memory runs out.
-    pub(crate) fn push(&mut self, tree: HoleTree) -> Result<(), Memory> {
+    pub fn push(&mut self, tree: HoleTree) -> Result<(), Memory> {
         raise(self.counts.as_mut_slice(), tree.cells.as_slice());
         self.trees.push(tree)?;
         Ok(())
     }
 
     /// Takes the last tree off.
-    pub(crate) fn pop(&mut self) -> Option<HoleTree> {
+    pub fn pop(&mut self) -> Option<HoleTree> {
         let tree = self.trees.pop()?;
         lower(self.counts.as_mut_slice(), tree.cells.as_slice());
         Some(tree)
@@ -90,7 +90,7 @@ impl HoleRoster {
     }
 
     /// Takes the tree at a place off; the last one stands there then.
-    pub(crate) fn take(&mut self, place: usize) -> Option<HoleTree> {
+    pub fn take(&mut self, place: usize) -> Option<HoleTree> {
         if place >= self.trees.len() {
             return None;
         }
@@ -103,14 +103,14 @@ impl HoleRoster {
     /// # Errors
     ///
     /// `Memory` where memory runs out.
-    pub(crate) fn put(&mut self, place: usize, tree: HoleTree) -> Result<(), Memory> {
+    pub fn put(&mut self, place: usize, tree: HoleTree) -> Result<(), Memory> {
         self.push(tree)?;
         self.swap_with_last(place);
         Ok(())
     }
 
     /// Leaves no more than so many trees.
-    pub(crate) fn shorten(&mut self, count: usize) {
+    pub fn shorten(&mut self, count: usize) {
         for _ in count..self.trees.len() {
             let lost = self.pop();
             drop(lost);
@@ -118,7 +118,7 @@ impl HoleRoster {
     }
 
     /// Returns how many trees are of a team.
-    pub(crate) fn heads_of(&self, team: usize) -> u32 {
+    pub fn heads_of(&self, team: usize) -> u32 {
         let mut heads = 0u32;
         for tree in self.trees.as_slice() {
             if tree.team == team {
@@ -129,7 +129,7 @@ impl HoleRoster {
     }
 
     /// Says whether each team has as many as it needs, and no more than it may.
-    pub(crate) fn is_staffed(&self, graph: &HoleGraph) -> bool {
+    pub fn is_staffed(&self, graph: &HoleGraph) -> bool {
         for (place, team) in graph.teams.as_slice().iter().enumerate() {
             let heads = self.heads_of(place);
             if heads < team.least || heads > team.most {
@@ -140,7 +140,7 @@ impl HoleRoster {
     }
 
     /// Returns what the trees cost.
-    pub(crate) fn fixed_cost(&self) -> u64 {
+    pub fn fixed_cost(&self) -> u64 {
         let mut total = 0u64;
         for tree in self.trees.as_slice() {
             total = total.saturating_add(tree.cost);
@@ -149,7 +149,7 @@ impl HoleRoster {
     }
 
     /// Returns what the roster costs, and more where a count is outside of its cell's range.
-    pub(crate) fn cost(&self, instance: &Instance) -> u64 {
+    pub fn cost(&self, instance: &Instance) -> u64 {
         let mut total = self.fixed_cost();
         let cells = instance.cells.as_slice();
         for (cell, count) in cells.iter().zip(self.counts.as_slice()) {
@@ -159,7 +159,7 @@ impl HoleRoster {
     }
 
     /// Sets what one more employee saves at each cell.
-    pub(crate) fn set_gains(&self, instance: &Instance, gains: &mut [f64]) {
+    pub fn set_gains(&self, instance: &Instance, gains: &mut [f64]) {
         let cells = instance.cells.as_slice();
         let known = cells.iter().zip(self.counts.as_slice());
         for ((cell, count), gain) in known.zip(gains.iter_mut()) {

@@ -5,7 +5,7 @@ use roster_model::{Cell, penalty};
 const OUTSIDE: u64 = 1 << 40;
 
 /// Returns what a count weighs at a cell.
-pub(crate) fn weight(cell: &Cell, count: u32) -> u64 {
+pub fn weight(cell: &Cell, count: u32) -> u64 {
     let lacking = cell.floor.saturating_sub(count);
     let outside = lacking.saturating_add(count.saturating_sub(cell.ceiling));
     penalty(cell, count).saturating_add(OUTSIDE.saturating_mul(u64::from(outside)))

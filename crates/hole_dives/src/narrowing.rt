@@ -1,14 +1,11 @@
-use crate::floats::{NEAR, NONE, at, lesser, set_at};
-use crate::graph::HoleGraph;
-use crate::part::{HoleArc, Part, Row};
-use crate::passing::Passer;
 use crate::volume::Asked;
+use hole_passes::{HoleArc, HoleGraph, NEAR, NONE, Part, Passer, Row, at, lesser, set_at};
 use roster_model::Memory;
 use std::alloc::Global;
 
 /// What it takes to leave out the arcs whose trees all cost too much.
 #[derive(Drop)]
-pub(crate) struct Narrower {
+pub struct Narrower {
     /// The least sum outside of each slot.
     outer: Vec<f64>,
     /// Whether the arc at each place of the part is kept.
@@ -44,7 +41,7 @@ impl Narrower {
     /// # Errors
     ///
     /// `Memory` where memory runs out.
-    pub(crate) fn new(alloc: Global, graph: &HoleGraph) -> Result<Narrower, Memory> {
+    pub fn new(alloc: Global, graph: &HoleGraph) -> Result<Narrower, Memory> {
         Ok(Narrower {
             outer: vec![in alloc; NONE; graph.slots()]?,
             keeps: vec![in alloc; false; graph.all.arcs.len()]?,
@@ -105,7 +102,7 @@ impl Narrower {
 
     /// Leaves out the arcs whose trees all cost more than the limit above the least ones, after a pass. Says
     /// whether any is left.
-    pub(crate) fn narrow(
+    pub fn narrow(
         &mut self,
         graph: &HoleGraph,
         part: &mut Part,

@@ -10,7 +10,7 @@ const MOST_STEPS: u32 = 2_000;
 
 /// What passes over parts of a graph work on.
 #[derive(Drop)]
-pub(crate) struct Passer {
+pub struct Passer {
     /// What one more employee is worth at each cell.
     pub gains: Vec<f64>,
     /// The least sum of a tree at each slot.
@@ -28,7 +28,7 @@ pub(crate) struct Passer {
 
 /// By what the arcs of a tree are chosen.
 #[derive(Clone, Copy, PartialEq, Eq, Drop)]
-pub(crate) enum Way {
+pub enum Way {
     /// By the sums of the last pass.
     Sums,
     /// As the choices say.
@@ -39,7 +39,7 @@ pub(crate) enum Way {
 const CELL_WORK: u64 = 8;
 
 /// Sets the place that a node chooses.
-pub(crate) fn choose(choices: &mut [u32], node: u32, place: u32) {
+pub fn choose(choices: &mut [u32], node: u32, place: u32) {
     if let Some(choice) = choices.get_mut(node as usize) {
         *choice = place;
     }
@@ -102,11 +102,7 @@ impl Passer {
     /// # Errors
     ///
     /// `Memory` where memory runs out.
-    pub(crate) fn new(
-        alloc: Global,
-        instance: &Instance,
-        graph: &HoleGraph,
-    ) -> Result<Passer, Memory> {
+    pub fn new(alloc: Global, instance: &Instance, graph: &HoleGraph) -> Result<Passer, Memory> {
         Ok(Passer {
             gains: vec![in alloc; 0.0; instance.cells.len()]?,
             sums: vec![in alloc; 0.0; graph.slots()]?,
@@ -174,7 +170,7 @@ impl Passer {
     }
 
     /// Passes over a part of a graph at the gains: each node has the least sum of its trees then.
-    pub(crate) fn pass(&mut self, graph: &HoleGraph, part: &Part) {
+    pub fn pass(&mut self, graph: &HoleGraph, part: &Part) {
         set_letters(
             graph.letters.as_slice(),
             self.gains.as_slice(),
@@ -184,13 +180,13 @@ impl Passer {
     }
 
     /// Passes over the graph for the trees of a word.
-    pub(crate) fn pass_word(&mut self, graph: &HoleGraph, word: &[u8]) {
+    pub fn pass_word(&mut self, graph: &HoleGraph, word: &[u8]) {
         set_word(graph.letters.as_slice(), word, self.sums.as_mut_slice());
         self.run(graph, &graph.all);
     }
 
     /// Returns the least sum of a tree of a team after a pass, and makes its tree the one that is written.
-    pub(crate) fn lead(&mut self, graph: &HoleGraph, part: &Part, team: usize) -> f64 {
+    pub fn lead(&mut self, graph: &HoleGraph, part: &Part, team: usize) -> f64 {
         if !graph.is_grouped {
             return at(self.sums.as_slice(), graph.root);
         }
@@ -238,7 +234,7 @@ impl Passer {
     /// # Errors
     ///
     /// `Memory` where memory runs out.
-    pub(crate) fn write(
+    pub fn write(
         &mut self,
         graph: &HoleGraph,
         part: &Part,

@@ -1,9 +1,4 @@
-use crate::floats::{NEVER, NONE};
-use crate::graph::Site;
-use crate::part::Part;
-use crate::passing::{Passer, Way};
-use crate::roster::HoleRoster;
-use crate::tree::HoleTree;
+use hole_passes::{HoleRoster, HoleTree, NEVER, NONE, Part, Passer, Site, Way};
 use roster_model::Memory;
 use std::alloc::Global;
 
@@ -78,7 +73,7 @@ fn grow_one(
 /// # Errors
 ///
 /// `Memory` where memory runs out.
-pub(crate) fn grow(
+pub fn grow(
     alloc: Global,
     site: Site,
     part: &Part,

@@ -3,7 +3,7 @@ use std::alloc::Global;
 
 /// A tree as its cells, its arcs and the bytes of its word.
 #[derive(Drop)]
-pub(crate) struct HoleTree {
+pub struct HoleTree {
     /// The places of the cells where it works.
     pub cells: Vec<u32>,
     /// The numbers of its arcs.
@@ -16,7 +16,7 @@ pub(crate) struct HoleTree {
 
 impl HoleTree {
     /// Returns a tree of nothing.
-    pub(crate) fn new(alloc: Global) -> HoleTree {
+    pub fn new(alloc: Global) -> HoleTree {
         HoleTree {
             cells: Vec::new(alloc),
             arcs: Vec::new(alloc),
@@ -27,7 +27,7 @@ impl HoleTree {
     }
 
     /// Leaves nothing of it.
-    pub(crate) fn clear(&mut self) {
+    pub fn clear(&mut self) {
         self.cells.clear();
         self.arcs.clear();
         self.word.clear();
@@ -40,7 +40,7 @@ impl HoleTree {
     /// # Errors
     ///
     /// `Memory` where memory runs out.
-    pub(crate) fn blank(&mut self, periods: u8) -> Result<(), Memory> {
+    pub fn blank(&mut self, periods: u8) -> Result<(), Memory> {
         self.clear();
         for _ in 0..periods {
             self.word.push(0)?;
@@ -53,7 +53,7 @@ impl HoleTree {
     /// # Errors
     ///
     /// `Memory` where memory runs out.
-    pub(crate) fn copied(&self, alloc: Global) -> Result<HoleTree, Memory> {
+    pub fn copied(&self, alloc: Global) -> Result<HoleTree, Memory> {
         let cells = Vec::from_slice(alloc, self.cells.as_slice())?;
         let arcs = Vec::from_slice(alloc, self.arcs.as_slice())?;
         let word = Vec::from_slice(alloc, self.word.as_slice())?;

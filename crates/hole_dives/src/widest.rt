@@ -1,10 +1,8 @@
-use crate::floats::{NEAR, at, lesser, set_at};
 use crate::flow::Flow;
-use crate::graph::HoleGraph;
-use crate::part::{HoleArc, Part};
-use crate::passing::{Passer, Way, choose};
-use crate::tree::HoleTree;
 use crate::volume::Volume;
+use hole_passes::{
+    HoleArc, HoleGraph, HoleTree, NEAR, Part, Passer, Way, at, choose, lesser, set_at,
+};
 use roster_model::Memory;
 use std::alloc::Global;
 
@@ -16,7 +14,7 @@ const SHUT: f64 = -1.0;
 
 /// What it takes to find the tree whose narrowest arc is widest.
 #[derive(Drop)]
-pub(crate) struct Widest {
+pub struct Widest {
     widths: Vec<f64>,
     /// The tree that was found last.
     pub tree: HoleTree,
@@ -77,7 +75,7 @@ impl Widest {
     /// # Errors
     ///
     /// `Memory` where memory runs out.
-    pub(crate) fn new(alloc: Global, graph: &HoleGraph) -> Result<Widest, Memory> {
+    pub fn new(alloc: Global, graph: &HoleGraph) -> Result<Widest, Memory> {
         Ok(Widest {
             widths: vec![in alloc; OPEN; graph.slots()]?,
             tree: HoleTree::new(alloc),
@@ -111,7 +109,7 @@ impl Widest {
     /// # Errors
     ///
     /// `Memory` where memory runs out.
-    pub(crate) fn find(
+    pub fn find(
         &mut self,
         graph: &HoleGraph,
         part: &Part,

@@ -1,13 +1,9 @@
 use crate::exchanging::exchange;
-use crate::floats::{NEAR, greater, lesser, of_cost, of_count};
-use crate::graph::Site;
 use crate::growing::grow;
 use crate::narrowing::Narrower;
-use crate::part::Part;
-use crate::passing::Passer;
-use crate::roster::HoleRoster;
 use crate::volume::Volume;
 use crate::widest::Widest;
+use hole_passes::{HoleRoster, NEAR, Part, Passer, Site, greater, lesser, of_cost, of_count};
 use roster_model::Memory;
 use search_watch::Watch;
 use std::alloc::Global;
@@ -35,7 +31,7 @@ const AGAIN: f64 = 0.02;
 
 /// How a dive ends.
 #[derive(Clone, Copy, PartialEq, Eq, Drop)]
-pub(crate) enum HoleEnd {
+pub enum HoleEnd {
     /// No roster with the trees that stay costs less.
     Cut,
     /// None was found, or the watch was over.
@@ -71,7 +67,7 @@ impl Fixed {
 
 /// What dives work on.
 #[derive(Drop)]
-pub(crate) struct Dive {
+pub struct Dive {
     /// The arcs that dives begin with.
     base: Part,
     part: Part,
@@ -89,7 +85,7 @@ impl Dive {
     /// # Errors
     ///
     /// `Memory` where memory runs out.
-    pub(crate) fn new(alloc: Global, site: Site) -> Result<Dive, Memory> {
+    pub fn new(alloc: Global, site: Site) -> Result<Dive, Memory> {
         let passer = Passer::new(alloc, site.instance, site.graph)?;
         let volume = Volume::new(alloc, site)?;
         let narrower = Narrower::new(alloc, site.graph)?;
@@ -114,7 +110,7 @@ impl Dive {
     /// # Errors
     ///
     /// `Memory` where memory runs out.
-    pub(crate) fn widen(&mut self, site: Site) -> Result<(), Memory> {
+    pub fn widen(&mut self, site: Site) -> Result<(), Memory> {
         self.base.copy_from(&site.graph.all)
     }
 
@@ -124,7 +120,7 @@ impl Dive {
     /// # Errors
     ///
     /// `Memory` where memory runs out.
-    pub(crate) fn narrow_to(&mut self, alloc: Global, site: Site, cost: u64) -> Result<(), Memory> {
+    pub fn narrow_to(&mut self, alloc: Global, site: Site, cost: u64) -> Result<(), Memory> {
         let empty = HoleRoster::new(alloc, site.instance)?;
         self.start(site, &empty)?;
         let limit = of_cost(cost) - 1.0 + NEAR;
@@ -158,7 +154,7 @@ impl Dive {
     /// # Errors
     ///
     /// `Memory` where memory runs out.
-    pub(crate) fn find_prices<W: Watch>(
+    pub fn find_prices<W: Watch>(
         &mut self,
         site: Site,
         empty: &HoleRoster,
@@ -298,7 +294,7 @@ impl Dive {
     /// # Errors
     ///
     /// `Memory` where memory runs out.
-    pub(crate) fn dive<W: Watch>(
+    pub fn dive<W: Watch>(
         &mut self,
         alloc: Global,
         site: Site,
@@ -328,7 +324,7 @@ impl Dive {
     /// # Errors
     ///
     /// `Memory` where memory runs out.
-    pub(crate) fn exchange(
+    pub fn exchange(
         &mut self,
         alloc: Global,
         site: Site,

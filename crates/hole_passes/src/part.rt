@@ -3,7 +3,7 @@ use std::alloc::Global;
 
 /// An arc of the graph, with the slots of what is below it and the cost of its rule use.
 #[derive(Clone, Copy, Drop)]
-pub(crate) struct HoleArc {
+pub struct HoleArc {
     /// Its number in the graph.
     pub arc: u32,
     /// The slot of its first part.
@@ -16,7 +16,7 @@ pub(crate) struct HoleArc {
 
 /// A node, and the places of its arcs in a part.
 #[derive(Clone, Copy, Drop)]
-pub(crate) struct Row {
+pub struct Row {
     pub node: u32,
     pub begin: u32,
     pub end: u32,
@@ -24,14 +24,14 @@ pub(crate) struct Row {
 
 /// A part of a graph: nodes, each after those that its arcs use, and their arcs.
 #[derive(Drop)]
-pub(crate) struct Part {
+pub struct Part {
     pub rows: Vec<Row>,
     pub arcs: Vec<HoleArc>,
 }
 
 impl Part {
     /// Returns a part without nodes.
-    pub(crate) fn new(alloc: Global) -> Part {
+    pub fn new(alloc: Global) -> Part {
         Part {
             rows: Vec::new(alloc),
             arcs: Vec::new(alloc),
@@ -39,7 +39,7 @@ impl Part {
     }
 
     /// Returns the arcs of a row.
-    pub(crate) fn arcs_of(&self, row: &Row) -> &[HoleArc] {
+    pub fn arcs_of(&self, row: &Row) -> &[HoleArc] {
         match self
             .arcs
             .as_slice()
@@ -55,7 +55,7 @@ impl Part {
     /// # Errors
     ///
     /// `Memory` where memory runs out.
-    pub(crate) fn copy_from(&mut self, other: &Part) -> Result<(), Memory> {
+    pub fn copy_from(&mut self, other: &Part) -> Result<(), Memory> {
         self.rows.clear();
         self.arcs.clear();
         self.rows.extend_from_slice(other.rows.as_slice())?;
@@ -88,7 +88,7 @@ fn gather(arcs: &mut [HoleArc], row: Row, keeps: &[bool], begin: u32) -> u32 {
 
 impl Part {
     /// Keeps the arcs that are marked, by places, and the nodes that have some.
-    pub(crate) fn keep(&mut self, keeps: &[bool]) {
+    pub fn keep(&mut self, keeps: &[bool]) {
         let mut end = 0u32;
         let mut count = 0usize;
         for number in 0..self.rows.len() {

@@ -2,13 +2,11 @@ use crate::cells::{
     CellState, add_to_last, add_to_mean, begun_cell, blank_cell, clear_last, keep_tried, rises,
     set_gaps, share, shrink, step_along, try_best, worth,
 };
-use crate::floats::{NEVER, greater, lesser, of_count};
 use crate::flow::Flow;
-use crate::graph::{HoleGraph, HoleTeam, Site};
-use crate::part::Part;
-use crate::passing::{Passer, Way};
-use crate::roster::HoleRoster;
-use crate::tree::HoleTree;
+use hole_passes::{
+    HoleGraph, HoleRoster, HoleTeam, HoleTree, NEVER, Part, Passer, Site, Way, greater, lesser,
+    of_count,
+};
 use roster_model::Memory;
 use std::alloc::Global;
 
@@ -27,7 +25,7 @@ const LEAST_SQUARES: f64 = 1.0e-9;
 
 /// What is asked of a team.
 #[derive(Drop)]
-pub(crate) struct Asked {
+pub struct Asked {
     /// The least number of further employees, and the greatest.
     pub least: u32,
     pub most: u32,
@@ -40,7 +38,7 @@ pub(crate) struct Asked {
 /// The volume algorithm over what a roster leaves: prices of the cells that show a bound, and a mean of
 /// trees.
 #[derive(Drop)]
-pub(crate) struct Volume {
+pub struct Volume {
     pub states: Vec<CellState>,
     pub teams: Vec<Asked>,
     pub flow: Flow,
@@ -74,7 +72,7 @@ impl Asked {
     }
 
     /// Takes one employee off.
-    pub(crate) fn fix(&mut self) {
+    pub fn fix(&mut self) {
         self.least = self.least.saturating_sub(1);
         self.most = self.most.saturating_sub(1);
     }
@@ -114,7 +112,7 @@ impl Volume {
     /// # Errors
     ///
     /// `Memory` where memory runs out.
-    pub(crate) fn new(alloc: Global, site: Site) -> Result<Volume, Memory> {
+    pub fn new(alloc: Global, site: Site) -> Result<Volume, Memory> {
         let cells = site.instance.cells.len();
         Ok(Volume {
             states: vec![in alloc; blank_cell(); cells]?,
@@ -158,7 +156,7 @@ impl Volume {
     /// # Errors
     ///
     /// `Memory` where memory runs out.
-    pub(crate) fn ask_again(
+    pub fn ask_again(
         &mut self,
         graph: &HoleGraph,
         part: &Part,
@@ -174,7 +172,7 @@ impl Volume {
     /// # Errors
     ///
     /// `Memory` where memory runs out.
-    pub(crate) fn start(
+    pub fn start(
         &mut self,
         site: Site,
         roster: &HoleRoster,
@@ -275,7 +273,7 @@ impl Volume {
     /// # Errors
     ///
     /// `Memory` where memory runs out.
-    pub(crate) fn run(
+    pub fn run(
         &mut self,
         graph: &HoleGraph,
         part: &Part,
@@ -295,7 +293,7 @@ impl Volume {
     }
 
     /// Says whether no team may have a further employee.
-    pub(crate) fn is_full(&self) -> bool {
+    pub fn is_full(&self) -> bool {
         for team in self.teams.as_slice() {
             if team.most > 0 {
                 return false;
@@ -305,7 +303,7 @@ impl Volume {
     }
 
     /// Says whether nothing is needed: no cell lacks an employee, and no team does.
-    pub(crate) fn is_settled(&self) -> bool {
+    pub fn is_settled(&self) -> bool {
         for team in self.teams.as_slice() {
             if team.least > 0 {
                 return false;
@@ -320,7 +318,7 @@ impl Volume {
     }
 
     /// Makes the best prices those with which it begins.
-    pub(crate) fn keep_best(&mut self) {
+    pub fn keep_best(&mut self) {
         for (start, state) in self
             .starts
             .as_mut_slice()

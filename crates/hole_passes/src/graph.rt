@@ -6,14 +6,14 @@ use std::alloc::Global;
 use std::num::nearest_i64_to_f64;
 
 /// No cell, no arc, no node.
-pub(crate) const NOWHERE: u32 = 4_294_967_295;
+pub const NOWHERE: u32 = 4_294_967_295;
 
 /// How many slots each code has: one for each period from 0 on.
 const PERIODS: u8 = 97;
 
 /// A letter of the day.
 #[derive(Clone, Copy, Drop)]
-pub(crate) struct Letter {
+pub struct Letter {
     pub byte: u8,
     /// Its period, from 1; letters at period 0 stand nowhere.
     pub period: u8,
@@ -24,7 +24,7 @@ pub(crate) struct Letter {
 
 /// A team, and the arc that leads to it; on a day without groups all arcs of the root do.
 #[derive(Clone, Copy, Drop)]
-pub(crate) struct HoleTeam {
+pub struct HoleTeam {
     /// The number of its group, 0 on a day without groups.
     pub number: u8,
     pub least: u32,
@@ -34,7 +34,7 @@ pub(crate) struct HoleTeam {
 
 /// A graph by slots: those of the nodes, that of nothing, and those of the letters.
 #[derive(Drop)]
-pub(crate) struct HoleGraph {
+pub struct HoleGraph {
     pub all: Part,
     /// The node of whole days, `NOWHERE` where the day has no tree.
     pub root: u32,
@@ -48,7 +48,7 @@ pub(crate) struct HoleGraph {
 
 /// What holes are made in: a day, and its graph by slots.
 #[derive(Clone, Copy, Drop)]
-pub(crate) struct Site<'a> {
+pub struct Site<'a> {
     pub instance: &'a Instance,
     pub graph: &'a HoleGraph,
 }
@@ -242,11 +242,7 @@ impl HoleGraph {
     /// # Errors
     ///
     /// `Memory` where memory runs out.
-    pub(crate) fn of(
-        alloc: Global,
-        instance: &Instance,
-        graph: &Graph,
-    ) -> Result<HoleGraph, Memory> {
+    pub fn of(alloc: Global, instance: &Instance, graph: &Graph) -> Result<HoleGraph, Memory> {
         let nodes = graph.nodes();
         let letters = letters_of(alloc, instance, nodes)?;
         let teams = teams_of(alloc, instance, graph)?;
@@ -263,7 +259,7 @@ impl HoleGraph {
     }
 
     /// Returns the place of the team to which an arc of the root leads.
-    pub(crate) fn team_of(&self, arc: u32) -> usize {
+    pub fn team_of(&self, arc: u32) -> usize {
         if self.is_grouped {
             for (place, team) in self.teams.as_slice().iter().enumerate() {
                 if team.arc == arc {
@@ -275,14 +271,14 @@ impl HoleGraph {
     }
 
     /// Returns how many slots there are.
-    pub(crate) fn slots(&self) -> usize {
+    pub fn slots(&self) -> usize {
         (self.nodes as usize)
             .saturating_add(1)
             .saturating_add(self.letters.len())
     }
 
     /// Returns the letter at a slot.
-    pub(crate) fn letter_at(&self, slot: u32) -> Option<Letter> {
+    pub fn letter_at(&self, slot: u32) -> Option<Letter> {
         let place = slot.checked_sub(self.nodes.saturating_add(1))?;
         self.letters.as_slice().get(place as usize).copied()
     }

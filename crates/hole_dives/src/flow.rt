@@ -1,4 +1,4 @@
-use crate::floats::greater;
+use hole_passes::greater;
 use roster_model::Memory;
 use std::alloc::Global;
 
@@ -7,7 +7,7 @@ const LEAST_SCALE: f64 = 1.0e-60;
 
 /// How many trees have each arc in the mean: numbers with one scale.
 #[derive(Drop)]
-pub(crate) struct Flow {
+pub struct Flow {
     numbers: Vec<f64>,
     scale: f64,
 }
@@ -18,7 +18,7 @@ impl Flow {
     /// # Errors
     ///
     /// `Memory` where memory runs out.
-    pub(crate) fn new(alloc: Global, arcs: usize) -> Result<Flow, Memory> {
+    pub fn new(alloc: Global, arcs: usize) -> Result<Flow, Memory> {
         Ok(Flow {
             numbers: vec![in alloc; 0.0; arcs]?,
             scale: 1.0,
@@ -26,13 +26,13 @@ impl Flow {
     }
 
     /// Leaves nothing of it.
-    pub(crate) fn clear(&mut self) {
+    pub fn clear(&mut self) {
         self.numbers.as_mut_slice().fill(0.0);
         self.scale = 1.0;
     }
 
     /// Leaves a share of it.
-    pub(crate) fn shrink(&mut self, share: f64) {
+    pub fn shrink(&mut self, share: f64) {
         self.scale *= share;
         if self.scale < LEAST_SCALE {
             for number in self.numbers.as_mut_slice() {
@@ -43,7 +43,7 @@ impl Flow {
     }
 
     /// Adds so much to these arcs.
-    pub(crate) fn add(&mut self, arcs: &[u32], weight: f64) {
+    pub fn add(&mut self, arcs: &[u32], weight: f64) {
         let raised = weight / self.scale;
         for &arc in arcs {
             if let Some(number) = self.numbers.as_mut_slice().get_mut(arc as usize) {
@@ -53,7 +53,7 @@ impl Flow {
     }
 
     /// Takes a tree off these arcs.
-    pub(crate) fn take(&mut self, arcs: &[u32]) {
+    pub fn take(&mut self, arcs: &[u32]) {
         let one = 1.0 / self.scale;
         for &arc in arcs {
             if let Some(number) = self.numbers.as_mut_slice().get_mut(arc as usize) {
@@ -63,7 +63,7 @@ impl Flow {
     }
 
     /// Returns how many trees have an arc.
-    pub(crate) fn at(&self, arc: u32) -> f64 {
+    pub fn at(&self, arc: u32) -> f64 {
         match self.numbers.as_slice().get(arc as usize) {
             Some(number) => *number * self.scale,
             None => 0.0,

@@ -1,4 +1,4 @@
-use crate::floats::{bounded, greater, of_count};
+use hole_passes::{bounded, greater, of_count};
 use roster_model::Cell;
 
 /// What a count out of its cell's range costs further.
@@ -6,7 +6,7 @@ const RANGE: f64 = 1_000.0;
 
 /// A cell as the volume algorithm sees it.
 #[derive(Clone, Copy, Drop)]
-pub(crate) struct CellState {
+pub struct CellState {
     /// How many employees are needed still.
     pub need: f64,
     /// The least price, and the greatest one.
@@ -25,7 +25,7 @@ pub(crate) struct CellState {
 }
 
 /// Returns a cell of which nothing is known.
-pub(crate) fn blank_cell() -> CellState {
+pub fn blank_cell() -> CellState {
     CellState {
         need: 0.0,
         low: 0.0,
@@ -39,7 +39,7 @@ pub(crate) fn blank_cell() -> CellState {
 }
 
 /// Returns a cell where so many work already, at a price.
-pub(crate) fn begun_cell(cell: &Cell, count: u32, price: f64) -> CellState {
+pub fn begun_cell(cell: &Cell, count: u32, price: f64) -> CellState {
     let mut state = blank_cell();
     state.need = of_count(cell.need) - of_count(count);
     state.low = 0.0 - of_count(cell.over);
@@ -56,7 +56,7 @@ pub(crate) fn begun_cell(cell: &Cell, count: u32, price: f64) -> CellState {
 
 impl CellState {
     /// Returns the lawful price next to a price: the least one where no more are needed.
-    pub(crate) fn lawful(&self, price: f64) -> f64 {
+    pub fn lawful(&self, price: f64) -> f64 {
         if self.need <= 0.0 {
             self.low
         } else {
@@ -74,7 +74,7 @@ impl CellState {
     }
 
     /// Takes one employee off what is needed.
-    pub(crate) fn fix(&mut self) {
+    pub fn fix(&mut self) {
         self.need -= 1.0;
         self.mean = greater(self.mean - 1.0, 0.0);
         if self.need <= 0.0 {
@@ -84,7 +84,7 @@ impl CellState {
 }
 
 /// Sets how many lack in the mean at each cell, and returns the sum of the squares.
-pub(crate) fn set_gaps(states: &mut [CellState]) -> f64 {
+pub fn set_gaps(states: &mut [CellState]) -> f64 {
     let mut squares = 0.0;
     for state in states {
         state.set_gap();
@@ -94,7 +94,7 @@ pub(crate) fn set_gaps(states: &mut [CellState]) -> f64 {
 }
 
 /// Tries the prices that lie a step along the gaps from the best ones.
-pub(crate) fn step_along(states: &mut [CellState], step: f64, gains: &mut [f64]) {
+pub fn step_along(states: &mut [CellState], step: f64, gains: &mut [f64]) {
     for (state, gain) in states.iter_mut().zip(gains.iter_mut()) {
         state.tried = state.lawful(state.best + step * state.gap);
         *gain = state.tried;
@@ -102,7 +102,7 @@ pub(crate) fn step_along(states: &mut [CellState], step: f64, gains: &mut [f64])
 }
 
 /// Tries the best prices.
-pub(crate) fn try_best(states: &mut [CellState], gains: &mut [f64]) {
+pub fn try_best(states: &mut [CellState], gains: &mut [f64]) {
     for (state, gain) in states.iter_mut().zip(gains.iter_mut()) {
         state.tried = state.best;
         *gain = state.best;
@@ -110,14 +110,14 @@ pub(crate) fn try_best(states: &mut [CellState], gains: &mut [f64]) {
 }
 
 /// Makes the tried prices the best ones.
-pub(crate) fn keep_tried(states: &mut [CellState]) {
+pub fn keep_tried(states: &mut [CellState]) {
     for state in states {
         state.best = state.tried;
     }
 }
 
 /// Returns what all that is needed is worth at the tried prices.
-pub(crate) fn worth(states: &[CellState]) -> f64 {
+pub fn worth(states: &[CellState]) -> f64 {
     let mut worth = 0.0;
     for state in states {
         worth += state.need * state.tried;
@@ -126,14 +126,14 @@ pub(crate) fn worth(states: &[CellState]) -> f64 {
 }
 
 /// Leaves a share of the mean.
-pub(crate) fn shrink(states: &mut [CellState], share: f64) {
+pub fn shrink(states: &mut [CellState], share: f64) {
     for state in states {
         state.mean *= share;
     }
 }
 
 /// Adds so many employees to the mean at these cells.
-pub(crate) fn add_to_mean(states: &mut [CellState], cells: &[u32], weight: f64) {
+pub fn add_to_mean(states: &mut [CellState], cells: &[u32], weight: f64) {
     for &cell in cells {
         if let Some(state) = states.get_mut(cell as usize) {
             state.mean += weight;
@@ -142,14 +142,14 @@ pub(crate) fn add_to_mean(states: &mut [CellState], cells: &[u32], weight: f64) 
 }
 
 /// Forgets how many work by the last trees.
-pub(crate) fn clear_last(states: &mut [CellState]) {
+pub fn clear_last(states: &mut [CellState]) {
     for state in states {
         state.last = 0.0;
     }
 }
 
 /// Adds so many employees to the last ones at these cells.
-pub(crate) fn add_to_last(states: &mut [CellState], cells: &[u32], heads: f64) {
+pub fn add_to_last(states: &mut [CellState], cells: &[u32], heads: f64) {
     for &cell in cells {
         if let Some(state) = states.get_mut(cell as usize) {
             state.last += heads;
@@ -159,7 +159,7 @@ pub(crate) fn add_to_last(states: &mut [CellState], cells: &[u32], heads: f64) {
 
 /// Returns the share of the last trees in the next mean that brings it nearest to what is needed, within 0.01
 /// and 0.1.
-pub(crate) fn share(states: &[CellState]) -> f64 {
+pub fn share(states: &[CellState]) -> f64 {
     let mut product = 0.0;
     let mut square = 0.0;
     for state in states {
@@ -177,7 +177,7 @@ pub(crate) fn share(states: &[CellState]) -> f64 {
 }
 
 /// Says whether what is shown rises further along the gaps.
-pub(crate) fn rises(states: &[CellState]) -> bool {
+pub fn rises(states: &[CellState]) -> bool {
     let mut rise = 0.0;
     for state in states {
         rise += (state.need - state.last) * state.gap;
