@@ -18,7 +18,7 @@ mod bound;
 mod cells;
 mod counts;
 mod extend;
-mod finish;
+mod from_draft;
 mod laws;
 mod line;
 mod need;
@@ -28,6 +28,7 @@ mod write;
 
 pub use demand_lines::{DemandFault, fault_line};
 pub use extend::day_grammar;
+pub use from_draft::finish;
 pub use laws::{
     accepted_lines, extension_is_sound, refused_line, written_again, written_again_behind_comment,
 };

@@ -5,7 +5,7 @@ ghost use Rattle.demand_lines.specs.Steps.{Reads};
 ghost use Rattle.demand_text.specs.Lines.{item_at};
 ghost use Rattle.demand_text.specs.InstanceOf.{no_draft, draft_of, instance_of};
 
-use crate::finish::finish;
+use crate::from_draft::finish;
 use crate::line::line;
 use demand_lines::{DemandFault, Draft};
 use roster_model::{Grammar, Instance, List};

@@ -2,7 +2,7 @@ use Rattle.std.proofs.Common.{refl, sym, length, arith}
 use Rattle.demand_text.specs.InstanceOf.{day_grammar}
 use Rattle.demand_text.proofs.GroupSums.{in_order}
 use Rattle.demand_text.proofs.SoundInstances.{parts_sound}
-use Rattle.demand_text.proofs.finish.finish.Goals as goal
+use Rattle.demand_text.proofs.from_draft.finish.Goals as goal
 
 pub heads_of-requires-clause-least : goal.heads_of-requires-clause-least
 heads_of-requires-clause-least c =
