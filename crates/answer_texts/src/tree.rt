@@ -1,3 +1,5 @@
+//! The text of a derivation.
+
 ghost use Rattle.std.specs.Prelude.{◌≡◌, ◌∷◌, [], ◌++◌, All, IfOk, OnOk};
 ghost use Rattle.roster_model.specs.Sound.{IsSound};
 ghost use Rattle.text_lines.specs.Written.{written};

@@ -1,3 +1,5 @@
+//! The text of a verdict.
+
 ghost use Rattle.std.specs.Prelude.{◌≡◌, ◌++◌, IfOk, OnOk, codes};
 ghost use Rattle.answer_texts.specs.VerdictText.{amount, field, arc_fields, group_field, why_line, verdict_text};
 

@@ -1,3 +1,5 @@
+//! A space and a number.
+
 ghost use Rattle.std.specs.Prelude.{◌≡◌, ◌∷◌, [], ◌++◌, OnOk, pos};
 ghost use Rattle.text_lines.specs.Numbers.{number_text};
 

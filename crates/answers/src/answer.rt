@@ -1,3 +1,5 @@
+//! How a command ends.
+
 use roster_model::List;
 
 /// How a command ends: its status, and what it says.

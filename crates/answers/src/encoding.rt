@@ -1,3 +1,5 @@
+//! What is noted of a text's encoding.
+
 ghost use Rattle.std.specs.Prelude.{◌≡◌};
 
 use shelf::Shelf;

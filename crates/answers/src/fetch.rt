@@ -1,3 +1,5 @@
+//! A text fetched, and an answer said.
+
 ghost use Rattle.std.specs.Prelude.{◌≡◌, ◌≢◌, ◌∷◌, [], IfOk, IfErr};
 ghost use Rattle.answers.specs.Fetch.{IsAnswer, IsFetchTo, NoAnswer};
 ghost use Rattle.answers.specs.Reader.{IsReader};

@@ -1,3 +1,5 @@
+//! How many bytes a text has at most.
+
 /// A rules text has at most so many bytes.
 pub const MOST_RULES: usize = 1_048_576;
 

@@ -1,3 +1,5 @@
+//! What may be asked of a third text.
+
 ghost use Rattle.std.specs.Prelude.{ℕ, List, ◌≡◌, ◌≢◌, IfOk};
 ghost use Rattle.roster_model.specs.declared.instance.Instance.{Instance as Day};
 ghost use Rattle.roster_model.specs.SoundInstance.{IsSoundInstance};

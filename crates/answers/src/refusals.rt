@@ -1,3 +1,5 @@
+//! Why a text is refused.
+
 ghost use Rattle.std.specs.Prelude.{◌≡◌, ◌≢◌, IfOk};
 ghost use Rattle.rules_text.specs.FaultLine as rules_line;
 ghost use Rattle.demand_lines.specs.FaultLine as demand_line;

@@ -1,3 +1,5 @@
+//! A text said, and the statuses of refusals.
+
 ghost use Rattle.std.specs.Prelude.{◌≡◌, ◌≢◌, ◌≤◌, ◌++◌, ◌⊎◌, ◌<◌, ◌-◌, ◌^◌, IfSome, IsSomeAnd, IsTrue, Some};
 ghost use Rattle.shelf.specs.Shelf.{SaidPart, one_more};
 

@@ -1,3 +1,5 @@
+//! What the sums say: whole counts, an arc between two, or neither.
+
 ghost use Rattle.std.specs.Prelude.{◌≡◌, ◌≤◌, ◌/◌, IfOk, IfSome, MatchOption, length};
 ghost use Rattle.arc_weights.specs.Choices.{margin_of, is_fraction, nearest, CountAsWhole, IsPart, HaveFew, FitCounts};
 ghost use Rattle.arc_weights.specs.Choices.{AreRounded, IsLeft, IsFitted, IsChoice, HasNoChoice, IsAnswer};

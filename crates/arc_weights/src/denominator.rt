@@ -1,3 +1,5 @@
+//! The least common denominator of the weights.
+
 ghost use Rattle.std.specs.Prelude.{◌<◌, ◌≤◌, IfSome, IfNone};
 ghost use Rattle.arc_weights.specs.Denominators.{IsCommonMultiple, IsPast, IsDenominator, AreAllPast};
 

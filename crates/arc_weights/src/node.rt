@@ -1,3 +1,5 @@
+//! A node that is solved.
+
 use arc_counts::ArcBox;
 use master_rows::Day;
 use node_master::{Pool, Solution, Weight};

@@ -1,3 +1,5 @@
+//! The arc that weighs farthest from a whole number.
+
 ghost use Rattle.std.specs.Prelude.{◌≡◌, ◌≤◌, ◌<◌, ◌/◌, IfOk, IfSome, length};
 ghost use Rattle.arc_weights.specs.Choices.{FitCounts};
 ghost use Rattle.arc_weights.specs.Nodes.{IsSolvedNode};

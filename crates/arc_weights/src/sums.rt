@@ -1,3 +1,5 @@
+//! The weight of the trees with each arc, in units of 1/D.
+
 ghost use Rattle.std.specs.Prelude.{ℕ, ◌≡◌, ◌<◌, ◌≤◌, ◌*◌, ◌+◌, ◌^◌, IfOk, length};
 ghost use Rattle.roster_model.specs.Folds.{Each};
 ghost use Rattle.roster_model.specs.arc_laws.Lists.{StandOnce};

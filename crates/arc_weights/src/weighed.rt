@@ -1,3 +1,5 @@
+//! The answers, and `weigh`.
+
 ghost use Rattle.std.specs.Prelude.{IfOk};
 ghost use Rattle.arc_weights.specs.Nodes.{IsSolvedNode, IsWeighedNode};
 

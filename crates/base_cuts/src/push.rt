@@ -1,3 +1,5 @@
+//! The cuts of one group, and of all.
+
 ghost use Rattle.std.specs.Prelude.{◌≡◌, ◌≤◌, ◌<◌, ◌+◌, ◌-◌, ◌++◌, [], ◌∷◌, cond, nat_lt, vec_len, vec_capacity};
 ghost use Rattle.roster_model.specs.Cuts.{group_cuts, base_cuts};
 ghost use Rattle.roster_model.specs.SoundInstance.{IsSoundInstance};

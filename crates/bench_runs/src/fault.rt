@@ -1,3 +1,5 @@
+//! Why a run did nothing.
+
 use demand_text::DemandFault;
 use parse_graph::GraphFault;
 use roster_model::Memory;

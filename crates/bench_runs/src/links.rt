@@ -1,3 +1,5 @@
+//! The graph as lines, for the plain program.
+
 ghost use Rattle.roster_model.specs.Sound.{IsSound};
 
 use crate::fault::BenchFault;

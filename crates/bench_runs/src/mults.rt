@@ -1,3 +1,5 @@
+//! Least sums by passes with prices on the arcs of so many cuts.
+
 ghost use Rattle.std.specs.Prelude.{◌≡◌, ◌≤◌, ◌^◌, ◌<◌, All, IfOk, length};
 ghost use Rattle.roster_model.specs.SoundInstance.{IsSoundInstance};
 ghost use Rattle.roster_model.specs.Sums.{Within};

@@ -1,3 +1,5 @@
+//! Prices of a fill, by the numbers of letters and rules.
+
 ghost use Rattle.std.specs.Prelude.{◌≡◌};
 ghost use Rattle.bench_runs.specs.Prices.{price_of};
 

@@ -1,3 +1,5 @@
+//! Least sums by the table, and by passes over the graph.
+
 ghost use Rattle.std.specs.Prelude.{IfOk};
 ghost use Rattle.roster_model.specs.Sound.{IsSound};
 ghost use Rattle.parse_graph.specs.Graphs.{HasGrammar, IsGraph};

@@ -1,3 +1,5 @@
+//! The master of a day's root, with no trees at first.
+
 ghost use Rattle.std.specs.Prelude.{◌≡◌, ◌≤◌, ◌<◌, ◌^◌, length, IfOk};
 ghost use Rattle.std.specs.Bool.{OnTrue};
 ghost use Rattle.roster_model.specs.Folds.{Each};

@@ -1,3 +1,5 @@
+//! One row of a tableau, stepped again and again.
+
 ghost use Rattle.std.specs.Prelude.{◌≡◌, length};
 
 use fraction::{Tally, row_step};

@@ -1,3 +1,5 @@
+//! The laws.
+
 ghost use Rattle.bound_laws.specs.Laws.{
   LagrangianBound,
   PricedBound,

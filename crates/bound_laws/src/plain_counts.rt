@@ -1,3 +1,5 @@
+//! Laws on counts of arcs on plain days, those without floors, ceilings and groups.
+
 ghost use Rattle.bound_laws.specs.PlainCountLaws.{LettersWithinHeads, PlainPinned};
 
 /// Of balanced counts, those of the arcs that use a letter are together at most those of the arcs

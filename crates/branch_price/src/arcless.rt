@@ -1,3 +1,5 @@
+//! Days without arcs: the root is pinned, and its counts are those of the roster without shifts.
+
 ghost use Rattle.std.specs.Prelude.{IfOk};
 ghost use Rattle.master_rows.specs.search_day.Rooms.{Grows};
 ghost use Rattle.branch_price.specs.Arcless.{IsArclessDay, IsRootRoster};

@@ -1,3 +1,5 @@
+//! The one place where the master is asked.
+
 ghost use Rattle.std.specs.Prelude.{◌≡◌, IfOk};
 ghost use Rattle.branch_price.specs.Asking.{AreNodeCuts, EndsAt, IsCounted};
 ghost use Rattle.branch_price.specs.Desks.{AreTools, StayTools};

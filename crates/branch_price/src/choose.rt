@@ -1,3 +1,5 @@
+//! The split of a node.
+
 ghost use Rattle.std.specs.Prelude.{◌<◌, IfOk, length};
 ghost use Rattle.arc_counts.specs.count_boxes.Paths.{IsLooseAt};
 ghost use Rattle.arc_weights.specs.Nodes.{IsSolvedNode};

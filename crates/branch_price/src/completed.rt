@@ -1,3 +1,5 @@
+//! Rosters from dives and from weights rounded down, completed and made better.
+
 ghost use Rattle.std.specs.Prelude.{ℕ, ◌<◌, All, IfOk, length};
 ghost use Rattle.master_rows.specs.search_day.Days.{IsDay};
 ghost use Rattle.branch_price.specs.Desks.{CanFind, HasFound};

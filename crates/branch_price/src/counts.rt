@@ -1,3 +1,5 @@
+//! The least counts that a box leaves, and the arc of a number.
+
 ghost use Rattle.std.specs.Prelude.{◌≡◌, ◌<◌, IfOk, Some, length, slice_get};
 ghost use Rattle.branch_price.specs.Plans.{AreLeast};
 

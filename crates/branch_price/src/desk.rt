@@ -1,3 +1,5 @@
+//! What a search works on, beside its tree: the desk, and the bench, which has the path too.
+
 ghost use Rattle.std.specs.Prelude.{IfOk};
 ghost use Rattle.master_rows.specs.search_day.Days.{IsDay};
 ghost use Rattle.branch_price.specs.Desks.{IsDesk, IsNewBench};

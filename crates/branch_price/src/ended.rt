@@ -1,3 +1,5 @@
+//! What is found at its end.
+
 ghost use Rattle.std.specs.Prelude.{◌≡◌, IfOk};
 ghost use Rattle.roster_model.specs.SoundInstance.{IsSoundInstance};
 ghost use Rattle.candidate_rosters.specs.Offers.{cost_of};

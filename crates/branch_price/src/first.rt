@@ -1,3 +1,5 @@
+//! A roster before any node has prices.
+
 ghost use Rattle.std.specs.Prelude.{IfSome};
 ghost use Rattle.master_rows.specs.search_day.Days.{IsDay};
 ghost use Rattle.candidate_rosters.specs.Rosters.{IsGoodRoster};

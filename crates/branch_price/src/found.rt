@@ -1,3 +1,5 @@
+//! The answer.
+
 use certificates::Cert;
 use roster_model::Done;
 

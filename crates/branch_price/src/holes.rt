@@ -1,3 +1,5 @@
+//! Rosters by holes, on wide days.
+
 ghost use Rattle.std.specs.Prelude.{IfOk, IfSome};
 ghost use Rattle.roster_model.specs.SoundInstance.{IsSoundInstance};
 ghost use Rattle.master_rows.specs.search_day.Days.{IsDay};

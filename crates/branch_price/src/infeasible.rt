@@ -1,3 +1,5 @@
+//! Days whose head counts or a cell alone show that there is no roster.
+
 ghost use Rattle.std.specs.Prelude.{IfOk};
 ghost use Rattle.roster_model.specs.SoundInstance.{IsSoundInstance};
 ghost use Rattle.bound_laws.specs.Infeasible.{IsPlainlyInfeasible};

@@ -1,3 +1,5 @@
+//! The day that is searched once it is known not to be plainly infeasible, and what is asked there.
+
 use crate::start::Start;
 use master_rows::Day;
 

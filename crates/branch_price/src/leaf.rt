@@ -1,3 +1,5 @@
+//! What becomes of a leaf.
+
 ghost use Rattle.std.specs.Prelude.{◌≡◌, ◌≤◌, All, IfOk, IfSome, OnOk};
 ghost use Rattle.roster_model.specs.declared.instance.Cut.{Cut as PathCut};
 ghost use Rattle.bound_laws.specs.Pinned.{IsPinned};

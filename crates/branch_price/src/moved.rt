@@ -1,3 +1,5 @@
+//! The best roster made better where there are no prices.
+
 ghost use Rattle.std.specs.Prelude.{◌<◌, All, IfOk, IfSome, length};
 ghost use Rattle.master_rows.specs.search_day.Days.{IsDay};
 ghost use Rattle.branch_price.specs.Desks.{CanFind, HasFound};

@@ -1,3 +1,5 @@
+//! Rosters of trees, offered where they cost less.
+
 ghost use Rattle.std.specs.Prelude.{◌<◌, All, length};
 ghost use Rattle.tree_pool.specs.Pools.{IsPool};
 ghost use Rattle.branch_price.specs.Desks.{CanOffer, HasOffered};

@@ -1,3 +1,5 @@
+//! The roster of an old certificate, offered before the first turn; its trees go into the pool.
+
 ghost use Rattle.std.specs.Prelude.{◌≤◌, OnOk, length};
 ghost use Rattle.roster_model.specs.Folds.{Each};
 ghost use Rattle.certificates.specs.Sound.{IsSoundShift};

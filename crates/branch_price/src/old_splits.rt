@@ -1,3 +1,5 @@
+//! The splits of an old certificate by the paths that they stand at.
+
 use certificates::Node;
 use node_master::Pool;
 use parse_graph::Graph;

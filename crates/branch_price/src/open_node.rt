@@ -1,3 +1,5 @@
+//! A node that leaves some arc more than one count.
+
 use crate::job::SearchedDay;
 use arc_counts::ArcBox;
 use roster_model::Cut;

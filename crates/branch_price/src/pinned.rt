@@ -1,3 +1,5 @@
+//! What the counts cost that a path leaves, and their roster.
+
 ghost use Rattle.std.specs.Prelude.{◌≡◌, ◌≤◌, OnOk};
 ghost use Rattle.bound_laws.specs.Pinned.{IsPinnedValue};
 ghost use Rattle.arc_counts.specs.node_path.Paths.{IsPath};

@@ -1,3 +1,5 @@
+//! The arc that is tried.
+
 ghost use Rattle.branch_price.specs.Nodes.{IsOpenNode, IsSmall};
 
 use crate::desk::SplitHints;

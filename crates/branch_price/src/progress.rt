@@ -1,3 +1,5 @@
+//! How far a search is, and the leaf that comes next.
+
 ghost use Rattle.roster_model.specs.SoundInstance.{IsSoundInstance};
 ghost use Rattle.branch_price.specs.Ends.{IsNext};
 

@@ -1,3 +1,5 @@
+//! Weights in whole parts, and rosters of them.
+
 ghost use Rattle.std.specs.Prelude.{ℕ, pos, ◌≤◌, ◌<◌, ◌<ℤ◌, All, IfOk, OnOk, length};
 ghost use Rattle.roster_model.specs.SoundInstance.{IsSoundInstance};
 ghost use Rattle.tree_pool.specs.Pools.{IsPool};

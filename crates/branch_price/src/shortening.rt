@@ -1,3 +1,5 @@
+//! The arcs that a roster can have which costs less than the best one.
+
 ghost use Rattle.master_rows.specs.search_day.Days.{IsDay};
 ghost use Rattle.branch_price.specs.Desks.{IsDesk};
 ghost use Rattle.branch_price.specs.Solutions.{CanShow};

@@ -1,3 +1,5 @@
+//! What comes of a node's master, and what is known of the node.
+
 ghost use Rattle.std.specs.Prelude.{◌≡◌};
 ghost use Rattle.branch_price.specs.Solutions.{outcome_of};
 

@@ -1,3 +1,5 @@
+//! What a search begins with of an old certificate.
+
 ghost use Rattle.std.specs.Prelude.{◌≡◌, []};
 
 use certificates::Node;

@@ -1,3 +1,5 @@
+//! Where the loop ends.
+
 ghost use Rattle.std.specs.Prelude.{◌≡◌, ◌≢◌, Bool, true, false, IsTrue};
 ghost use Rattle.branch_price.specs.Loops.{MayStop};
 

@@ -1,3 +1,5 @@
+//! What is asked of a search.
+
 use crate::start::Start;
 use master_rows::Day;
 

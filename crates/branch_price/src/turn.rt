@@ -1,3 +1,5 @@
+//! One turn.
+
 ghost use Rattle.std.specs.Prelude.{◌≡◌, ◌≤◌, IfOk, OnOk};
 ghost use Rattle.branch_price.specs.Desks.{StayTools, IsBench, IsPathOf};
 ghost use Rattle.branch_price.specs.Jobs.{IsSearchedDay};

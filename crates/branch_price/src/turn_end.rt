@@ -1,3 +1,5 @@
+//! How a turn ended.
+
 use open_nodes::OpenLeaf;
 use roster_model::Prices;
 

@@ -1,3 +1,5 @@
+//! What prices show at a path.
+
 ghost use Rattle.std.specs.Prelude.{◌≡◌};
 ghost use Rattle.bound_laws.specs.Priced.{IsPricedValue};
 ghost use Rattle.master_rows.specs.search_day.Rooms.{ArePricing, StayPricing};

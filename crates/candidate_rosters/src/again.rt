@@ -1,3 +1,5 @@
+//! The roster of stated shifts at their prices on a day.
+
 ghost use Rattle.std.specs.Prelude.{◌≡◌, ◌≤◌, IfOk, length};
 ghost use Rattle.roster_model.specs.Folds.{Each};
 ghost use Rattle.certificates.specs.Sound.{IsSoundShift};

@@ -1,3 +1,5 @@
+//! Trees, added to the pool by their numbers.
+
 ghost use Rattle.std.specs.Prelude.{◌≡◌, ◌<◌, All, IfOk, length, map, List as Items};
 ghost use Rattle.roster_model.specs.Folds.{Each};
 ghost use Rattle.roster_model.specs.Sound.{IsSound};

@@ -1,3 +1,5 @@
+//! Prices under which a tree's sum is its cost, and the pricer filled for them.
+
 ghost use Rattle.std.specs.Prelude.{OnOk};
 ghost use Rattle.master_rows.specs.search_day.Days.{IsDay};
 ghost use Rattle.master_rows.specs.search_day.Rooms.{ArePricing, StayPricing};

@@ -1,3 +1,5 @@
+//! `offer_counts`.
+
 ghost use Rattle.std.specs.Prelude.{◌≡◌, OnOk, IfOk, IfSome, MatchOption, length};
 ghost use Rattle.roster_model.specs.declared.grammar.Grammar.{Grammar as Rules};
 ghost use Rattle.roster_model.specs.Sound.{IsSound};

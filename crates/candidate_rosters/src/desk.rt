@@ -1,3 +1,5 @@
+//! What it takes to price words.
+
 ghost use Rattle.std.specs.Prelude.{IfOk};
 ghost use Rattle.roster_model.specs.SoundInstance.{IsSoundInstance};
 ghost use Rattle.candidate_rosters.specs.Rosters.{IsDeskFor};

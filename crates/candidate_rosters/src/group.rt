@@ -1,3 +1,5 @@
+//! The team of a tree.
+
 ghost use Rattle.std.specs.Prelude.{◌≡◌};
 ghost use Rattle.roster_model.specs.SoundInstance.{IsSoundInstance};
 ghost use Rattle.roster_model.specs.Trees.{Parts, IsDayTree, steps};

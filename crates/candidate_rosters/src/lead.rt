@@ -1,3 +1,5 @@
+//! The arc of a team's rule, and a cheapest tree of a team.
+
 ghost use Rattle.std.specs.Prelude.{◌≡◌, ◌≢◌, ◌+◌, []};
 ghost use Rattle.roster_model.specs.Cuts.{group_arc as arc_of_rule};
 ghost use Rattle.roster_model.specs.Folds.{In};

@@ -1,3 +1,5 @@
+//! A cheapest tree of each team, as often as it needs employees.
+
 ghost use Rattle.std.specs.Prelude.{◌≡◌, ◌++◌, IfOk, OnOk};
 ghost use Rattle.roster_model.specs.Folds.{In};
 ghost use Rattle.roster_model.specs.Room.{most_uses};

@@ -1,3 +1,5 @@
+//! The roster with which a search begins.
+
 ghost use Rattle.std.specs.Prelude.{IfOk};
 ghost use Rattle.master_rows.specs.search_day.Days.{IsDay};
 ghost use Rattle.master_rows.specs.search_day.Rooms.{ArePricing, StayPricing};

@@ -1,3 +1,5 @@
+//! The price of a shift, known or asked of the table.
+
 ghost use Rattle.std.specs.Prelude.{◌≤◌, ◌<◌, IfSome, length};
 ghost use Rattle.roster_model.specs.Folds.{In};
 ghost use Rattle.roster_model.specs.Rosters.{IsTeamPrice};

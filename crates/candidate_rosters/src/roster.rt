@@ -1,3 +1,5 @@
+//! The roster of some trees' words, where it is allowed.
+
 ghost use Rattle.std.specs.Prelude.{◌<◌, All, IfOk, IfSome, length};
 ghost use Rattle.tree_pool.specs.Pools.{IsPool};
 ghost use Rattle.roster_model.specs.Rosters.{IsRoster, roster_cost};

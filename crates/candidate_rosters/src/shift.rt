@@ -1,3 +1,5 @@
+//! The shift that a tree spells.
+
 ghost use Rattle.std.specs.Prelude.{◌<◌, IfOk, length};
 ghost use Rattle.tree_pool.specs.Pools.{IsPool};
 ghost use Rattle.candidate_rosters.specs.Rosters.{IsDeskFor};

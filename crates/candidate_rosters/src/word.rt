@@ -1,3 +1,5 @@
+//! The bytes of codes.
+
 ghost use Rattle.std.specs.Prelude.{◌≡◌, ◌<◌, All, IfOk, length, map};
 ghost use Rattle.roster_model.specs.Coverage.{code_byte};
 

@@ -1,3 +1,5 @@
+//! The two laws.
+
 ghost use Rattle.std.specs.Prelude.{◌≡◌, ◌≤◌, ◌↔◌, ℕ, List, Ok, length};
 ghost use Rattle.roster_model.specs.declared.instance.Instance.{Instance};
 ghost use Rattle.roster_model.specs.SoundInstance.{IsSoundInstance};

@@ -1,3 +1,5 @@
+//! The lines of a certificate, and those that reports have too.
+
 ghost use Rattle.std.specs.Prelude.{◌≡◌, ◌≤◌, ◌+◌, ◌*◌, ◌/◌, ◌++◌, [], ◌∷◌, All, codes as text, length, map, IfOk, OnOk};
 ghost use Rattle.text_lines.specs.Numbers.{number_text};
 ghost use Rattle.text_lines.specs.Written.{written, tail};

@@ -1,3 +1,5 @@
+//! Certificates and their nodes.
+
 use roster_model::{ArcKey, List, Prices, Shift};
 
 /// A node of a certificate's tree. Each cut on the way to a node bounds how many of a roster's

@@ -1,3 +1,5 @@
+//! Which nodes were processed, and which splits have no prices.
+
 ghost use Rattle.std.specs.Prelude.{◌≡◌};
 ghost use Rattle.certificates.specs.Kinds.{is_processed, is_unpriced};
 

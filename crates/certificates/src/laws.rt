@@ -1,3 +1,5 @@
+//! The law of one tree.
+
 ghost use Rattle.certificates.specs.Laws.{OneTree};
 
 /// A list of nodes begins with the preorder of at most one tree, so the nodes of a certificate are

@@ -1,3 +1,5 @@
+//! The test of soundness, and that of arcs, shifts and prices.
+
 ghost use Rattle.std.specs.Prelude.{◌≡◌, ◌≤◌, ◌≤ℤ◌, ◌^◌, pos, ◌↔◌, All, IsTrue, IfSome, count_by, length, List as Items};
 ghost use Rattle.roster_model.specs.declared.instance.Cut.{Cut};
 ghost use Rattle.roster_model.specs.Folds.{Each};

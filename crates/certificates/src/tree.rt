@@ -1,3 +1,5 @@
+//! Whether the nodes are one whole tree.
+
 ghost use Rattle.std.specs.Prelude.{ℕ, ◌≡◌, ◌≤◌, ◌<◌, ◌+◌, ◌↔◌, [], ◌∷◌, IsTrue, IfSome, length, List as Items};
 ghost use Rattle.roster_model.specs.declared.instance.Cut.{Cut};
 ghost use Rattle.roster_model.specs.SoundInstance.{IsSoundInstance};

@@ -1,3 +1,5 @@
+//! What a checker says.
+
 use crate::why::Why;
 
 /// What a checker says of a certificate.

@@ -1,3 +1,5 @@
+//! The causes for which a certificate is refused.
+
 use roster_model::ArcKey;
 
 /// Why a certificate is refused. Shifts and nodes are numbered from 1 in the certificate's order.

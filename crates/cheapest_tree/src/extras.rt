@@ -1,3 +1,5 @@
+//! What arcs cost, by their places: written before a pass from the listed entries, and taken back after it.
+
 ghost use Rattle.std.specs.Prelude.{◌≡◌, ◌+◌, ◌+ℤ◌, ◌<◌, ◌≤◌, ◌^◌, ◌⊎◌, IsTrue, IsFalse, IfOk, IfSome, IfNone, Some, List as Items, ℕ, length, slice_get, slice_set};
 ghost use Rattle.roster_model.specs.declared.grammar.ArcKey.{ArcKey as Key};
 ghost use Rattle.roster_model.specs.Folds.{In};

@@ -1,3 +1,5 @@
+//! The slots of nodes and letters, joined by the arcs.
+
 ghost use Rattle.std.specs.Prelude.{◌≡◌, ◌≤◌, ◌<◌, ◌*◌, ◌+◌, IfOk, OnOk, length};
 ghost use Rattle.cheapest_tree.specs.Links.{AreLinks};
 

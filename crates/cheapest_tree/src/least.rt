@@ -1,3 +1,5 @@
+//! Prices and sums in numbers of any width.
+
 ghost use Rattle.std.specs.Prelude.{◌≡◌, ◌≤ℤ◌, ◌+ℤ◌, ◌+◌, ◌^◌, pos, IfSome, IfNone, None, Some};
 ghost use Rattle.roster_model.specs.Sums.{plus, Within};
 ghost use Rattle.cheapest_tree.specs.Numbers.{sum_but, IsBetter};

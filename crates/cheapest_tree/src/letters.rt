@@ -1,3 +1,5 @@
+//! The letters that have slots.
+
 ghost use Rattle.cheapest_tree.specs.Numbering.{AreNumbered};
 
 use crate::slots::Spot;

@@ -1,3 +1,5 @@
+//! Numbers of 64 bits.
+
 ghost use Rattle.std.specs.Prelude.{◌≡◌, ◌≤ℤ◌, ◌^◌, IfSome};
 
 use crate::number::Number;

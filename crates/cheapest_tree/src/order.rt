@@ -1,3 +1,5 @@
+//! The nodes, each after those that its arcs use, with the arcs that make a node side by side.
+
 ghost use Rattle.std.specs.Prelude.{ℕ, ◌≡◌, ◌≢◌, ◌≤◌, ◌<◌, ◌+◌, ◌-◌, ◌^◌, [], List as Items, Some, length, slice_get, slice_index, IsTrue, IsFalse, IfOk, OnOk};
 ghost use Rattle.parse_graph.specs.Graphs.{HasGrammar};
 ghost use Rattle.cheapest_tree.specs.declared.slots.Spot.{Spot};

@@ -1,3 +1,5 @@
+//! What a pass works in.
+
 use crate::extras::Extras;
 use crate::least::{Price, Sum};
 use crate::number::Number;

@@ -1,3 +1,5 @@
+//! A pass in that order, in numbers of any width.
+
 ghost use Rattle.std.specs.Prelude.{◌≡◌, ◌≤◌, ◌≤ℤ◌, ◌<◌, ◌+◌, ◌^◌, IsTrue, IfSome, List as Items, Some, ℕ, pos, length, slice_set};
 ghost use Rattle.roster_model.specs.declared.grammar.ArcKey.{ArcKey as Key};
 ghost use Rattle.roster_model.specs.RoomPrices.{listed_price};

@@ -1,3 +1,5 @@
+//! Which slots the arcs join.
+
 ghost use Rattle.std.specs.Prelude.{◌≡◌, ◌++◌, ◌∷◌, [], IfOk, OnOk};
 
 use roster_model::{List, Memory};

@@ -1,3 +1,5 @@
+//! Optional sums.
+
 ghost use Rattle.std.specs.Prelude.{◌≡◌, ◌^◌, IfSome, Some};
 ghost use Rattle.roster_model.specs.Sums.{plus, Within};
 

@@ -1,3 +1,5 @@
+//! Least sums under an arc.
+
 ghost use Rattle.std.specs.Prelude.{◌≡◌, ◌^◌, IfSome};
 ghost use Rattle.roster_model.specs.declared.grammar.ArcKey.{ArcKey as Key};
 ghost use Rattle.roster_model.specs.Sums.{IsLeast, Within, tree_sum};

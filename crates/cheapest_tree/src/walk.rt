@@ -1,3 +1,5 @@
+//! The steps of a tree of least sum.
+
 ghost use Rattle.std.specs.Prelude.{◌≡◌, ◌<◌, ◌++◌, length};
 ghost use Rattle.roster_model.specs.arc_laws.AtNodes.{steps_of};
 ghost use Rattle.cheapest_tree.specs.Walks.{AsksNode, WritesNode, AsksArc, WritesArc, AsksSlot, WritesSlot};

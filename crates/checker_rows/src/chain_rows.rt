@@ -1,3 +1,5 @@
+//! That such a chain is one tree.
+
 ghost use Rattle.std.specs.Prelude.{◌≤◌};
 ghost use Rattle.roster_model.specs.SoundInstance.{IsSoundInstance};
 

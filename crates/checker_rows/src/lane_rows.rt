@@ -1,3 +1,5 @@
+//! Letters counted by place, and the first of the least sums.
+
 ghost use Rattle.std.specs.Prelude.{IsTrue};
 ghost use Rattle.lane_min.specs.LeastSum.{AreSmall};
 

@@ -1,3 +1,5 @@
+//! What the words ask for.
+
 ghost use Rattle.std.specs.Prelude.{◌≡◌, IfSome, map, string_bytes};
 ghost use Rattle.std.specs.Option.{option_copied};
 ghost use Rattle.search_commands.specs.Limits.{IsLimit};

@@ -1,3 +1,5 @@
+//! What is noted to words without a form.
+
 ghost use Rattle.std.specs.Prelude.{◌≡◌};
 
 use crate::form::{kind_of, limit_of, most_of, number_of_make};

@@ -1,3 +1,5 @@
+//! `run`.
+
 ghost use Rattle.std.specs.Prelude.{[], map, string_bytes};
 ghost use Rattle.command_line.specs.Form.{form_of};
 ghost use Rattle.command_line.specs.OneAnswer.{HasOneAnswer};

@@ -1,3 +1,5 @@
+//! Transcripts of `explain`, `rank`, `next` and `fits`.
+
 use crate::shelves::{answer, shelf_of};
 use crate::transcripts::have_answers;
 use std::alloc::{AllocError, Global};

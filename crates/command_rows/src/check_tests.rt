@@ -1,3 +1,5 @@
+//! Transcripts of `check` and `reuse`, with each cause for which a certificate is refused.
+
 use crate::shelves::{answer, shelf_of};
 use crate::transcripts::have_answers;
 use std::alloc::Global;

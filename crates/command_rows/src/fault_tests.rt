@@ -1,3 +1,5 @@
+//! What is noted of each fault of rules, demand, proof and roster texts.
+
 use crate::transcripts::have_answers;
 use std::test::Fail;
 

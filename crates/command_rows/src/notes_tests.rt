@@ -1,3 +1,5 @@
+//! What is noted of odd rules and demands, of texts in other encodings, and of words without a form.
+
 use crate::shelves::{answer, first_line, shelf_of};
 use crate::transcripts::have_answers;
 use std::alloc::Global;

@@ -1,3 +1,5 @@
+//! Each call of each command where it is refused: what is said, noted and stored then.
+
 use crate::shelves::{Outcome, STORED, end_alike, run_on, shelf_of};
 use crate::transcripts::have_answers;
 use shelf::MemoryShelf;

@@ -1,3 +1,5 @@
+//! Transcripts of `solve`, `curve` and `make`.
+
 use crate::shelves::{Outcome, answer, end_alike, is_said, run_on, shelf_of};
 use crate::transcripts::have_answers;
 use std::alloc::Global;

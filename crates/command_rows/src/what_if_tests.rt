@@ -1,3 +1,5 @@
+//! Transcripts of `value`, `rest`, `relax-rules` and `relax-demand`.
+
 use crate::transcripts::have_answers;
 use std::test::Fail;
 

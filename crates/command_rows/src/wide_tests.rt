@@ -1,3 +1,5 @@
+//! A turn on a day whose root has an exact path with numbers above 2^56.
+
 use crate::shelves::{answer, is_said, shelf_of};
 use shelf::MemoryShelf;
 use std::alloc::Global;

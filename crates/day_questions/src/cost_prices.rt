@@ -1,3 +1,5 @@
+//! Prices under which a tree's sum is its cost.
+
 ghost use Rattle.std.specs.Prelude.{◌≡◌, ◌≤◌, ℕ};
 ghost use Rattle.roster_model.specs.Arcs.{rule_cost};
 ghost use Rattle.roster_model.specs.Sound.{IsSound};

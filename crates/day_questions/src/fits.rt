@@ -1,3 +1,5 @@
+//! Which shifts fit a pattern.
+
 ghost use Rattle.std.specs.Prelude.{◌≡◌, IfOk, OnOk, Some, length};
 ghost use Rattle.roster_model.specs.Sound.{IsSound};
 ghost use Rattle.span_table.specs.next_codes.Views.{AreMarginals, IsMadeFor};

@@ -1,3 +1,5 @@
+//! What stands before a code on a line.
+
 /// What stands before a code and its price on a line.
 #[derive(Clone, Copy, Drop)]
 pub enum Front {

@@ -1,3 +1,5 @@
+//! The laws on the prices of a pattern, and of one answer.
+
 ghost use Rattle.day_questions.specs.Laws.{LeastSums, MarginalPrices, PatternSums};
 ghost use Rattle.day_questions.specs.Once.{OneFitsAnswer, OneNextAnswer, OneRankedAnswer};
 

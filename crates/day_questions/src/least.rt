@@ -1,3 +1,5 @@
+//! The least sum of the day's trees, by the plain table.
+
 ghost use Rattle.std.specs.Prelude.{IfOk};
 ghost use Rattle.roster_model.specs.Sound.{IsSound};
 ghost use Rattle.roster_model.specs.Sums.{IsLeast, tree_sum};

@@ -1,3 +1,5 @@
+//! The lines of codes and their prices.
+
 ghost use Rattle.std.specs.Prelude.{ℕ, ◌≡◌, ◌≤◌, ◌<◌, ◌++◌, ◌∷◌, [], Option as Maybe, OnOk, length};
 ghost use Rattle.roster_model.specs.Sound.{IsSound};
 ghost use Rattle.text_lines.specs.Numbers.{number_text};

@@ -1,3 +1,5 @@
+//! How many letters of a prefix some shift begins with.
+
 ghost use Rattle.std.specs.Prelude.{ℕ, ◌≡◌, ◌<◌, ◌≤◌, ◌^◌, ◌∷◌, [], Some, IfOk, pos, codes};
 ghost use Rattle.roster_model.specs.Sound.{IsSound};
 ghost use Rattle.roster_model.specs.Sums.{IsLeast, tree_sum};

@@ -1,3 +1,5 @@
+//! Prices of a prefix by the letters that miss it.
+
 ghost use Rattle.std.specs.Prelude.{◌≡◌, ◌≤◌, ◌^◌, ◌-◌, ℕ, pos};
 ghost use Rattle.roster_model.specs.Sound.{IsSound};
 ghost use Rattle.day_questions.specs.Prices.{miss};

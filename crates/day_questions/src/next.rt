@@ -1,3 +1,5 @@
+//! Which codes may follow a prefix.
+
 ghost use Rattle.std.specs.Prelude.{◌<◌, IfOk, OnOk, length};
 ghost use Rattle.roster_model.specs.Sound.{IsSound};
 ghost use Rattle.day_questions.specs.Next.{AddsNextLines, IsNextText, NextAnswer};

@@ -1,3 +1,5 @@
+//! Prices of a pattern.
+
 ghost use Rattle.std.specs.Prelude.{◌≡◌, ◌≤◌, ℕ};
 ghost use Rattle.roster_model.specs.Arcs.{rule_cost};
 ghost use Rattle.roster_model.specs.Sound.{IsSound};

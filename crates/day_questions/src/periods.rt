@@ -1,3 +1,5 @@
+//! The byte at a period.
+
 ghost use Rattle.std.specs.Prelude.{◌≡◌};
 ghost use Rattle.day_questions.specs.Prices.{at_period};
 

@@ -1,3 +1,5 @@
+//! How a question ends.
+
 ghost use Rattle.std.specs.Prelude.{◌≡◌, codes, IfOk};
 
 use roster_model::{List, Memory};

@@ -1,3 +1,5 @@
+//! The report of what a search found.
+
 ghost use Rattle.std.specs.Prelude.{IfOk, IfSome};
 ghost use Rattle.certificates.specs.certificate_laws.Accepted.{IsStated};
 ghost use Rattle.certificates.specs.Sound.{IsSoundCert};

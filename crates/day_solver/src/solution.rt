@@ -1,3 +1,5 @@
+//! The answer.
+
 use branch_price::Found;
 use roster_model::List;
 

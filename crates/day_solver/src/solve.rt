@@ -1,3 +1,5 @@
+//! One function owns the graph, one the pool; `day_curve`, whose points share a graph, takes its parts.
+
 ghost use Rattle.std.specs.Prelude.{ℕ, ◌≡◌, ◌≤◌, [], IfOk, IfErr};
 ghost use Rattle.branch_price.specs.Tasks.{IsSearchTask};
 ghost use Rattle.certificates.specs.Sound.{IsSoundCert};

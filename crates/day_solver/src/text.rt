@@ -1,3 +1,5 @@
+//! The certificate, written.
+
 ghost use Rattle.std.specs.Prelude.{IfOk};
 ghost use Rattle.certificates.specs.Sound.{IsSoundCert};
 ghost use Rattle.roster_model.specs.SoundInstance.{IsSoundInstance};

@@ -1,3 +1,5 @@
+//! Work codes and names of the rules.
+
 ghost use Rattle.std.specs.Prelude.{◌≡◌, ◌<◌, ◌≤◌, ◌==◌, ◌&&◌, length, IfSome, position};
 ghost use Rattle.std.specs.Str.{bytes_eq};
 ghost use Rattle.demand_lines.specs.Fields.{work_at, name_at};

@@ -1,3 +1,5 @@
+//! What the lines so far say.
+
 use roster_model::{Group, List};
 
 /// How many employees may work: 0 to 64 at least, 1 to 64 at most.

@@ -1,3 +1,5 @@
+//! Why a demand text is refused.
+
 use roster_model::Memory;
 use thiserror::Error;
 

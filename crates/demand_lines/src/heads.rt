@@ -1,3 +1,5 @@
+//! Heads and group lines.
+
 ghost use Rattle.std.specs.Prelude.{◌≡◌, ◌-◌, ◌≤◌, length};
 ghost use Rattle.roster_model.specs.Sound.{IsPlain};
 ghost use Rattle.demand_lines.specs.Fields.{range_at};

@@ -1,3 +1,5 @@
+//! The line of a fault.
+
 ghost use Rattle.std.specs.Prelude.{◌≡◌, ◌++◌, [], ◌∷◌, IfOk};
 ghost use Rattle.demand_lines.specs.FaultLine.{line_of, fault_text, fault_line};
 

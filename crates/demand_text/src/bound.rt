@@ -1,3 +1,5 @@
+//! The number of a `least` or `most` line at a period.
+
 ghost use Rattle.std.specs.Prelude.{◌≡◌, slice_index_or};
 ghost use Rattle.demand_text.specs.InstanceOf.{bound_of};
 

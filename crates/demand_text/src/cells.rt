@@ -1,3 +1,5 @@
+//! The cells of all need lines.
+
 ghost use Rattle.std.specs.Prelude.{◌≡◌, ◌≤◌, ◌++◌, All, length, map, IfOk, OnOk};
 ghost use Rattle.roster_model.specs.Demands.{demand_cells, all_cells};
 ghost use Rattle.roster_model.specs.Folds.{Each};

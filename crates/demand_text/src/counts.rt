@@ -1,3 +1,5 @@
+//! A number for each period.
+
 ghost use Rattle.std.specs.Prelude.{◌≡◌, []};
 ghost use Rattle.demand_lines.specs.Steps.{Reads, each};
 ghost use Rattle.demand_text.specs.Counts.{count_at, counts_at};

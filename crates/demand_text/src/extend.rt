@@ -1,3 +1,5 @@
+//! The grammar of a day with groups.
+
 ghost use Rattle.std.specs.Prelude.{◌≡◌, ◌≤◌, ◌++◌, ◌∷◌, [], length, map, IfOk, OnOk};
 ghost use Rattle.roster_model.specs.Extension.{any_window, group_rule, extended};
 ghost use Rattle.roster_model.specs.Names.{added_name};

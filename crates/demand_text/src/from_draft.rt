@@ -1,3 +1,5 @@
+//! The instance of all lines.
+
 ghost use Rattle.std.specs.Prelude.{◌≡◌, ◌≤◌, All, length, IfOk};
 ghost use Rattle.roster_model.specs.Sound.{IsSound, IsPlain};
 ghost use Rattle.roster_model.specs.SoundInstance.{IsSoundInstance};

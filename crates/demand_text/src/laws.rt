@@ -1,3 +1,5 @@
+//! The laws.
+
 ghost use Rattle.std.specs.Prelude.{◌≡◌, ◌≤◌, ◌⊎◌, ◌==◌, ◌∷◌, ◌++◌, ℕ, List, Ok, Err, length, not, true};
 ghost use Rattle.std.specs.List.{list_all};
 ghost use Rattle.roster_model.specs.declared.grammar.Grammar.{Grammar};

@@ -1,3 +1,5 @@
+//! One line.
+
 ghost use Rattle.std.specs.Prelude.{◌≡◌};
 ghost use Rattle.roster_model.specs.Sound.{IsSound, IsPlain};
 ghost use Rattle.demand_lines.specs.Steps.{Reads};

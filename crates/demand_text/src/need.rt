@@ -1,3 +1,5 @@
+//! Need, `least` and `most` lines.
+
 ghost use Rattle.std.specs.Prelude.{◌≡◌};
 ghost use Rattle.roster_model.specs.Sound.{IsSound};
 ghost use Rattle.demand_lines.specs.Steps.{Reads};

@@ -1,3 +1,5 @@
+//! One number of each cell.
+
 ghost use Rattle.std.specs.Prelude.{◌≡◌, ◌==◌, ◌++◌, map, OnOk};
 ghost use Rattle.std.specs.List.{list_all};
 ghost use Rattle.demand_text.specs.Written.{number_of, numbers_of, are_all};

@@ -1,3 +1,5 @@
+//! A tree of least sum by a table, and its text.
+
 ghost use Rattle.std.specs.Prelude.{◌≡◌, IfOk, length};
 ghost use Rattle.derived_rules.specs.RuledTrees.{SaysWithRules};
 ghost use Rattle.roster_model.specs.Shifts.{IsPrice};

@@ -1,3 +1,5 @@
+//! The text of a tree with its rules.
+
 ghost use Rattle.std.specs.Prelude.{◌≡◌, ◌∷◌, [], ◌++◌, All, IfOk, OnOk, Some, length};
 ghost use Rattle.answer_texts.specs.TreeText.{HasRule};
 ghost use Rattle.derived_rules.specs.RuledTrees.{ruled_text, use_lines};

@@ -1,3 +1,5 @@
+//! Trees that are cheap at the scout's prices.
+
 ghost use Rattle.std.specs.Prelude.{◌≡◌, ◌≤◌, ◌^◌, ℤ, All, IfSome, OnOk, length, unsigned_abs};
 ghost use Rattle.roster_model.specs.PriceRooms.{IsRoomFor};
 ghost use Rattle.roster_model.specs.Sums.{Within};

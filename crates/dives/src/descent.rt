@@ -1,3 +1,5 @@
+//! A dive that is under way.
+
 use crate::desk::DiveDesk;
 use crate::program::Program;
 

@@ -1,3 +1,5 @@
+//! Rooms.
+
 ghost use Rattle.std.specs.Prelude.{◌≡◌, IfOk, length};
 ghost use Rattle.master_rows.specs.node_task.Tasks.{IsTask};
 ghost use Rattle.dives.specs.Parts.{number_count, IsQuote, AreArcSums, IsDesk};

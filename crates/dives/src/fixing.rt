@@ -1,3 +1,5 @@
+//! Which trees a step fixes.
+
 ghost use Rattle.std.specs.Prelude.{OnOk, length};
 ghost use Rattle.dives.specs.Parts.{IsProgram, IsDiving, StayTools};
 

@@ -1,3 +1,5 @@
+//! A cheap tree, put into the pool.
+
 ghost use Rattle.std.specs.Prelude.{◌≡◌, ◌<◌, IfOk, IfSome, length};
 ghost use Rattle.roster_model.specs.tree_laws.DaySteps.{AreDaySteps};
 ghost use Rattle.short_order.specs.Shorts.{IsShortFor};

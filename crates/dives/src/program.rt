@@ -1,3 +1,5 @@
+//! What is left to solve, and what is fixed.
+
 ghost use Rattle.std.specs.Prelude.{ℕ, ◌≡◌, ◌<◌, IfOk, IfSome, OnOk, length};
 ghost use Rattle.master_rows.specs.node_task.Tasks.{IsTask};
 ghost use Rattle.dives.specs.Parts.{IsProgram};

@@ -1,3 +1,5 @@
+//! A scout with a master's rows.
+
 ghost use Rattle.std.specs.Prelude.{◌≡◌, ◌<◌, length};
 ghost use Rattle.master_rows.specs.NodeRows.{AreRows};
 ghost use Rattle.master_rows.specs.node_task.Tasks.{row_count};

@@ -1,3 +1,5 @@
+//! What a dive begins with.
+
 use scout::LastBasis;
 
 /// How trees are asked for in a step of a dive.

@@ -1,3 +1,5 @@
+//! Weights by arc.
+
 ghost use Rattle.std.specs.Prelude.{◌≡◌, ◌^◌, All, length};
 ghost use Rattle.roster_model.specs.Sums.{Within};
 

@@ -1,3 +1,5 @@
+//! A widest tree.
+
 ghost use Rattle.std.specs.Prelude.{◌<◌, IfOk, IfSome, IsTrue, length};
 ghost use Rattle.dives.specs.Parts.{HoldsTree, CanAsk, AreTools, StayTools};
 

@@ -1,3 +1,5 @@
+//! Prices of arcs alone, for widest trees.
+
 ghost use Rattle.std.specs.Prelude.{◌≡◌, ◌^◌, pos, All, slice_index_or};
 ghost use Rattle.roster_model.specs.Sums.{Within};
 ghost use Rattle.roster_model.specs.arc_laws.Lists.{StandOnce};

@@ -1,3 +1,5 @@
+//! What a demand shows.
+
 ghost use Rattle.std.specs.Prelude.{◌≡◌, ◌<◌, ◌↔◌, IsTrue, IfOk, OnOk, length};
 ghost use Rattle.roster_model.specs.Sound.{IsSound};
 ghost use Rattle.findings.specs.Findings.{IsStrangeGroup, IsVainNeed, OfGroup, OfTeam, OfCell, IsDemandFinding};

@@ -1,3 +1,5 @@
+//! The findings.
+
 /// Which window of a rule.
 #[derive(Clone, Copy, Debug, PartialEq, Eq, Drop)]
 pub enum WindowKind {

@@ -1,3 +1,5 @@
+//! Groups and the names that the start name leads to.
+
 ghost use Rattle.std.specs.Prelude.{◌≡◌, ◌↔◌, IsTrue};
 ghost use Rattle.findings.specs.Findings.{has_group, is_only, is_team, IsAbsentTeam};
 

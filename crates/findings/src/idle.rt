@@ -1,3 +1,5 @@
+//! What no shift uses.
+
 ghost use Rattle.std.specs.Prelude.{◌≡◌, ◌<◌, ◌↔◌, IsTrue, IfOk, OnOk, Some, length, slice_get};
 ghost use Rattle.roster_model.specs.Sound.{IsSound};
 ghost use Rattle.findings.specs.Findings.{BeginsInside, IsIdle, IsIdleName, IsIdleCode, OfIdleRule, OfIdleName, OfIdleCode, IsUseFinding};

@@ -1,3 +1,5 @@
+//! The codes that a shift has in a period.
+
 ghost use Rattle.std.specs.Prelude.{ℕ, ◌≡◌, ◌<◌, length};
 ghost use Rattle.roster_model.specs.Sound.{IsSound};
 ghost use Rattle.roster_model.specs.arc_laws.OrNodes.{symbol_node};

@@ -1,3 +1,5 @@
+//! Findings added to a list.
+
 ghost use Rattle.std.specs.Prelude.{◌≡◌, true, OnOk};
 ghost use Rattle.findings.specs.Listed.{Says, Adds};
 

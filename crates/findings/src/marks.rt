@@ -1,3 +1,5 @@
+//! Marks by number.
+
 ghost use Rattle.std.specs.Prelude.{◌≡◌, ◌<◌, ◌↔◌, IsTrue, length};
 ghost use Rattle.findings.specs.Marks.{IsSet, Sets};
 

@@ -1,3 +1,5 @@
+//! What a rules text shows.
+
 ghost use Rattle.std.specs.Prelude.{◌≡◌, ◌<◌, ◌↔◌, IsTrue, IfOk, OnOk, length};
 ghost use Rattle.roster_model.specs.Sound.{IsSound};
 ghost use Rattle.findings.specs.Findings.{window_of, IsBeyond, OfRule, IsRuleFinding};

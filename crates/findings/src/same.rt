@@ -1,3 +1,5 @@
+//! Rules that are the same.
+
 ghost use Rattle.std.specs.Prelude.{◌≡◌, ◌<◌, ◌↔◌, IsTrue, length};
 ghost use Rattle.findings.specs.Findings.{StandsBefore};
 

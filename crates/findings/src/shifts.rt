@@ -1,3 +1,5 @@
+//! The marks of a day's teams.
+
 ghost use Rattle.std.specs.Prelude.{◌↔◌, ◌⊎◌, IsTrue};
 ghost use Rattle.findings.specs.Findings.{EitherUsesRule, EitherUsesName, EitherUsesCode};
 ghost use Rattle.findings.specs.Marks.{IsSet};

@@ -1,3 +1,5 @@
+//! What the trees of a day use.
+
 ghost use Rattle.std.specs.Prelude.{◌≡◌, ℕ, length, IsTrue, IfSome};
 ghost use Rattle.roster_model.specs.Grammar.{rule_at};
 ghost use Rattle.roster_model.specs.Sound.{IsSound};

@@ -1,3 +1,5 @@
+//! A basis, its positions, and the room in which it works.
+
 use crate::kernel::Kernel;
 use crate::numbers::Entry64;
 use crate::vectors::{place_at, set_at};

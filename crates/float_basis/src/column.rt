@@ -1,3 +1,5 @@
+//! Columns, and whether they may enter.
+
 /// Whether a column may enter the basis.
 #[derive(Clone, Copy, Drop)]
 pub enum Standing {

@@ -1,3 +1,5 @@
+//! Columns and their entries, listed.
+
 use crate::column::{Column, Standing};
 use crate::run::{Run, Sign};
 use crate::vectors::copy_list;

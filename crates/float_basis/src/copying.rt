@@ -1,3 +1,5 @@
+//! A basis that becomes a copy of another one.
+
 use crate::basis::Basis;
 use crate::kernel::{InverseRow, Kernel};
 use crate::vectors::{copy_items, front, push_if_room};

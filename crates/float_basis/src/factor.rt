@@ -1,3 +1,5 @@
+//! A basis of wanted columns, and its inverse, made anew.
+
 use crate::basis::{Basis, NO_COLUMN, Position};
 use crate::columns::Columns;
 use crate::grown::Grown;

@@ -1,3 +1,5 @@
+//! Numbers beyond their bounds.
+
 /// A number left its bounds.
 #[derive(Clone, Copy, Debug, PartialEq, Eq, Drop)]
 pub struct Grown;

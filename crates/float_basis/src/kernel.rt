@@ -1,3 +1,5 @@
+//! The inverse of the tight square.
+
 use crate::numbers::Entry64;
 use crate::vectors::{at, copy_items, place_at, push_if_room, set_all, set_at};
 

@@ -1,3 +1,5 @@
+//! A basis with its memory.
+
 use crate::basis::{Basis, NO_COLUMN, Room};
 use crate::kernel::{InverseRow, Kernel, LOOSE};
 use std::alloc::{AllocError, Global};

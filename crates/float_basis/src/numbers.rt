@@ -1,3 +1,5 @@
+//! The types of floats, and their bounds.
+
 /// A number of the inverse, a sum of such numbers, or an entry of a column in terms of the basis: a float
 /// of 64 bits.
 pub type Entry64 = f64;

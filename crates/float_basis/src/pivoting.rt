@@ -1,3 +1,5 @@
+//! What happens to the kernel and the positions in a pivot.
+
 use crate::basis::{Basis, NO_COLUMN, Position, UnitNumber};
 use crate::kernel::{InverseRow, LOOSE, slot_of};
 use crate::numbers::Entry64;

@@ -1,3 +1,5 @@
+//! Products with the inverse, over lent numbers and a `ProductRoom`.
+
 use crate::basis::{Basis, sign_of};
 use crate::columns::Columns;
 use crate::making::{make_sums, make_zeros};

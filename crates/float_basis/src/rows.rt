@@ -1,3 +1,5 @@
+//! A row of the inverse of the whole basis.
+
 use crate::basis::{Basis, Position, UnitNumber, sign_of};
 use crate::columns::Columns;
 use crate::kernel::{InverseRow, LOOSE};

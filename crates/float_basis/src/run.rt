@@ -1,3 +1,5 @@
+//! Consecutive rows with one entry.
+
 use crate::numbers::Entry64;
 
 /// The sign of an entry.

@@ -1,3 +1,5 @@
+//! A column, values and prices in terms of the basis.
+
 use crate::basis::{Basis, Pick, sign_of};
 use crate::columns::Columns;
 use crate::grown::{Grown, fitting};

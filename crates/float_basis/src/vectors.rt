@@ -1,3 +1,5 @@
+//! Rows of numbers.
+
 use crate::basis::NO_COLUMN;
 use crate::grown::Grown;
 use crate::numbers::{Entry64, Value64, is_row_number};

@@ -1,3 +1,5 @@
+//! Bounds of prices and reference weights.
+
 use float_basis::Price64;
 
 /// A squared norm or a reference weight: a float of 64 bits.

@@ -1,3 +1,5 @@
+//! What careful runs do otherwise, and other costs of the rows' own columns.
+
 use crate::bounds::{MOST_WEIGHT, Weight64};
 use crate::state::State;
 use float_basis::{Entry64, at, set_at};

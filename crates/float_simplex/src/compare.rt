@@ -1,3 +1,5 @@
+//! The better of two candidates for a pivot.
+
 use crate::bounds::Weight64;
 
 /// A candidate for a pivot: the greater its size squared over its weight, the better.

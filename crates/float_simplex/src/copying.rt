@@ -1,3 +1,5 @@
+//! A program that becomes a copy of another one.
+
 use crate::figures::Figures;
 use crate::state::{Answers, Sides, State};
 use float_basis::{copy_items, copy_list};

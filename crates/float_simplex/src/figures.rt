@@ -1,3 +1,5 @@
+//! What the steps keep of the columns.
+
 use crate::bounds::Weight64;
 use float_basis::{Entry64, Price64, push_if_room, set_at, without_tiny};
 use roster_model::Memory;

@@ -1,3 +1,5 @@
+//! Numbers in units of 2^-32 and of 2^-24.
+
 ghost use Rattle.std.specs.Prelude.{◌≡◌};
 
 use float_basis::{Price64, Value64};

@@ -1,3 +1,5 @@
+//! The names of columns.
+
 /// The name of a column.
 #[derive(Clone, Copy, Debug, PartialEq, Eq, Drop)]
 pub enum Key {

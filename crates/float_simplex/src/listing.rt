@@ -1,3 +1,5 @@
+//! Columns, listed.
+
 use crate::state::State;
 use float_basis::{Sign, Standing};
 use roster_model::Memory;

@@ -1,3 +1,5 @@
+//! Perturbations, set and taken off.
+
 use crate::fixed::Q32;
 use crate::state::State;
 use float_basis::{Value64, at, product_of, set_all, set_at, subtract_multiple};

@@ -1,3 +1,5 @@
+//! Primal and dual steps.
+
 use crate::bounds::is_price;
 use crate::positions::Entered;
 use crate::state::State;

@@ -1,3 +1,5 @@
+//! What is kept of the columns of the basis.
+
 use crate::bounds::Weight64;
 use float_basis::{Exchange, Value64, at, copy_items, set_all, set_at};
 

@@ -1,3 +1,5 @@
+//! A copy whose last row is a cut.
+
 use crate::state::State;
 use float_basis::{Standing, set_at};
 use roster_model::Memory;

@@ -1,3 +1,5 @@
+//! Products with the inverse.
+
 use crate::state::State;
 use float_basis::ProductRoom;
 use roster_model::Memory;

@@ -1,3 +1,5 @@
+//! Values and prices in whole numbers.
+
 use crate::fixed::nearest;
 use crate::state::State;
 use crate::whole::{

@@ -1,3 +1,5 @@
+//! Values, prices and reduced costs, worked out anew.
+
 use crate::bounds::is_price;
 use crate::fixed::{Q24, Q32};
 use crate::state::State;

@@ -1,3 +1,5 @@
+//! A basis to start from.
+
 use crate::key::Key;
 use crate::state::State;
 use float_basis::{Entry64, Grown, LEAST_PIVOT, Value64, at, set_all};

@@ -1,3 +1,5 @@
+//! A program with a basis.
+
 use crate::figures::Figures;
 use crate::fixed::{Q24, Q32};
 use crate::positions::Positions;

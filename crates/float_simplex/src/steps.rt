@@ -1,3 +1,5 @@
+//! A run, step by step, and how it ends.
+
 use crate::care::STRICTER;
 use crate::pivot::Step;
 use crate::state::State;

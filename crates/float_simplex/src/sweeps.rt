@@ -1,3 +1,5 @@
+//! Reduced costs, and which column enters.
+
 use crate::bounds::{NEVER, Weight64, at_least_0, bounded};
 use crate::compare::Candidate;
 use crate::figures::Figures;

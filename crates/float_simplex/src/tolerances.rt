@@ -1,3 +1,5 @@
+//! What a run takes for 0.
+
 use float_basis::{Price64, Value64};
 
 /// What a run takes for 0.

@@ -1,3 +1,5 @@
+//! Values, and which column leaves.
+
 use crate::bounds::{NEVER, Weight64, at_least_0, bounded};
 use crate::compare::Candidate;
 use crate::positions::Positions;

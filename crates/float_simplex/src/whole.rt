@@ -1,3 +1,5 @@
+//! Whole numbers and floats, one from the other.
+
 use crate::fixed::nearest;
 use float_basis::Run;
 use std::num::nearest_i64_to_f64;

@@ -1,3 +1,5 @@
+//! Sums and differences.
+
 ghost use Rattle.std.specs.Prelude.{◌≡◌, ℤ, ◌+ℤ◌, ◌-ℤ◌, ◌*ℤ◌, IfOk, IfErr, IfSome, IfNone, OnOk, OnErr, OnSome};
 ghost use Rattle.fraction.specs.Sum.{IsCommonForm, SumFits, DifferenceFits};
 

@@ -1,3 +1,5 @@
+//! Sums and products of whole numbers in range, or refused.
+
 ghost use Rattle.std.specs.Prelude.{◌≡◌, ◌<◌, ◌≤◌, ◌^◌, pos, ◌+ℤ◌, ◌*ℤ◌, ◌<ℤ◌, ◌≤ℤ◌, unsigned_abs, IfErr, OnOk, OnErr, MatchResult, IsTrue, ◌↔◌};
 ghost use Rattle.std.specs.Result.{OkIff};
 ghost use Rattle.fraction.specs.Range.{InRange, refused};

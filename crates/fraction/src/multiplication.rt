@@ -1,3 +1,5 @@
+//! Products and quotients.
+
 ghost use Rattle.std.specs.Prelude.{◌≡◌, ◌≢◌, ◌⊎◌, ℤ, pos, neg_ℤ, ◌*ℤ◌, IfOk, IfErr, IfSome, IfNone, OnErr};
 ghost use Rattle.std.specs.Option.{SomeIff};
 ghost use Rattle.fraction.specs.Range.{InRange};

@@ -1,3 +1,5 @@
+//! The row step.
+
 ghost use Rattle.std.specs.Prelude.{◌≡◌, ℕ, ◌<◌, ◌^◌, pos, max, ◌*ℤ◌, ◌-ℤ◌, ◌<ℤ◌, length, unsigned_abs, IfOk, IfErr};
 ghost use Rattle.std.specs.Int.{◌∣◌, IsGcd};
 ghost use Rattle.std.specs.Option.{SomeIff};

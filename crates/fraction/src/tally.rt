@@ -1,3 +1,5 @@
+//! Counts of refusals.
+
 ghost use Rattle.std.specs.Prelude.{◌≡◌, ◌+◌, ◌-◌, ◌^◌, min};
 ghost use Rattle.fraction.specs.Range.{refused, overspent};
 

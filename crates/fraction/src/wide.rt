@@ -1,3 +1,5 @@
+//! Why a result was refused.
+
 use crate::Frac;
 
 /// Why a result was refused, with the numbers that were asked for.

@@ -1,3 +1,5 @@
+//! What three pinned boxes cost, and a cut with its undoing (`arc_counts::count_boxes`).
+
 ghost use Rattle.std.specs.Prelude.{◌≡◌, ◌<◌, IfSome, length};
 ghost use Rattle.roster_model.specs.SoundInstance.{IsSoundInstance};
 ghost use Rattle.parse_graph.specs.Graphs.{IsGraph};

@@ -1,3 +1,5 @@
+//! The small grammars, with contracts that tie them to `sample_days`.
+
 ghost use Rattle.std.specs.Prelude.{◌≡◌, IfOk};
 ghost use Rattle.roster_model.specs.Sound.{IsSound};
 ghost use Rattle.parse_graph.specs.Graphs.{HasGrammar, IsGraph};

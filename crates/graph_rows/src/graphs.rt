@@ -1,3 +1,5 @@
+//! Sizes, an arc that is not there, and days of many and of too many arcs (`parse_graph`).
+
 use crate::days::{block_graph, build, words_graph};
 use parse_graph::{Graph, GraphFault};
 use roster_model::{ArcKey, Grammar, Memory, Sym, is_sound};

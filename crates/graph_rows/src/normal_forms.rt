@@ -1,3 +1,5 @@
+//! How many items two grammars have, and the arcs of a word (`tree_pool::grammar_core`).
+
 ghost use Rattle.std.specs.Prelude.{◌≡◌};
 ghost use Rattle.sample_days.specs.RestAndWork.{rest_and_work};
 

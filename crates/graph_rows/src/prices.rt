@@ -1,3 +1,5 @@
+//! Least sums at prices, in numbers of both widths (`cheapest_tree`).
+
 ghost use Rattle.std.specs.Prelude.{[], ◌^◌, IsTrue};
 ghost use Rattle.roster_model.specs.PriceLimits.{FitPrices};
 ghost use Rattle.roster_model.specs.PriceRooms.{IsRoomFor};

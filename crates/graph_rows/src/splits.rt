@@ -1,3 +1,5 @@
+//! The counts of two different trees split into them, and counts of no trees (`arc_counts::roster_split`).
+
 ghost use Rattle.std.specs.Prelude.{◌≡◌, length};
 ghost use Rattle.parse_graph.specs.Graphs.{HasGrammar};
 

@@ -1,3 +1,5 @@
+//! Bounds by the volume algorithm on a day of pairs, against the least costs of its master.
+
 ghost use Rattle.std.specs.Prelude.{◌≤◌, IfOk, length};
 ghost use Rattle.roster_model.specs.Folds.{Each};
 ghost use Rattle.roster_model.specs.Limits.{IsSmallCut};

@@ -1,3 +1,5 @@
+//! What the volume algorithm knows of cells.
+
 use hole_passes::{bounded, greater, of_count};
 use roster_model::Cell;
 

@@ -1,3 +1,5 @@
+//! Chunks, fixings, and how a dive ends.
+
 use crate::exchanging::exchange;
 use crate::growing::grow;
 use crate::narrowing::Narrower;

@@ -1,3 +1,5 @@
+//! How many trees have each arc in the mean.
+
 use hole_passes::greater;
 use roster_model::Memory;
 use std::alloc::Global;

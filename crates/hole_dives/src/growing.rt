@@ -1,3 +1,5 @@
+//! Trees that save, or are needed.
+
 use hole_passes::{HoleRoster, HoleTree, NEVER, NONE, Part, Passer, Site, Way};
 use roster_model::Memory;
 use std::alloc::Global;

@@ -1,3 +1,5 @@
+//! Arcs whose trees all cost too much.
+
 use crate::volume::Asked;
 use hole_passes::{HoleArc, HoleGraph, NEAR, NONE, Part, Passer, Row, at, lesser, set_at};
 use roster_model::Memory;

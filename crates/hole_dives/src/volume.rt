@@ -1,3 +1,5 @@
+//! The volume algorithm.
+
 use crate::cells::{
     CellState, add_to_last, add_to_mean, begun_cell, blank_cell, clear_last, keep_tried, rises,
     set_gaps, share, shrink, step_along, try_best, worth,

@@ -1,3 +1,5 @@
+//! The tree whose narrowest arc is widest.
+
 use crate::flow::Flow;
 use crate::volume::Volume;
 use hole_passes::{

@@ -1,3 +1,5 @@
+//! Floats and whole numbers.
+
 use std::num::{nearest_i64_to_f64, saturating_f64_to_i64};
 
 /// A sum that stands for none: above all sums of trees.

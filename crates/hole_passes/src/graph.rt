@@ -1,3 +1,5 @@
+//! The graph by slots.
+
 use crate::floats::short;
 use crate::part::{HoleArc, Part, Row};
 use parse_graph::{Graph, Kid};

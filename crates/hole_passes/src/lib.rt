@@ -1,4 +1,9 @@
 //! A day's graph in floats, and passes over it: cheapest trees at prices of cells.
+//!
+//! How it goes: the graph of the day is copied once into arcs with the slots of what is below them (24 bytes
+//! an arc, some 40 bytes a slot). A pass sets the least sum of each node at prices of the cells, and a tree
+//! is written by going down along arcs that have these sums. A pass takes no memory once trees of its length
+//! were written.
 #![tactic(auto)]
 
 mod floats;

@@ -1,3 +1,5 @@
+//! A part of a graph.
+
 use roster_model::Memory;
 use std::alloc::Global;
 

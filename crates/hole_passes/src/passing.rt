@@ -1,3 +1,5 @@
+//! Passes, and the tree that they lead to.
+
 use crate::floats::{NONE, at, cost_of, lesser, set_at};
 use crate::graph::{HoleGraph, Letter, NOWHERE};
 use crate::part::{HoleArc, Part};

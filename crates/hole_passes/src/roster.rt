@@ -1,3 +1,5 @@
+//! Trees with how many work at each cell.
+
 use crate::floats::of_cost;
 use crate::graph::HoleGraph;
 use crate::tree::HoleTree;

@@ -1,3 +1,5 @@
+//! A tree as cells, arcs and bytes.
+
 use roster_model::Memory;
 use std::alloc::Global;
 

@@ -1,3 +1,5 @@
+//! What a count weighs.
+
 use roster_model::{Cell, penalty};
 
 /// What a count weighs for each employee by whom it is outside of its cell's range: more than any roster

@@ -1,3 +1,5 @@
+//! A watch that is over at its n-th question.
+
 use search_watch::{Standing, Subject, Watch, Work};
 use std::cell::Cell;
 

@@ -1,3 +1,5 @@
+//! `add_matches`.
+
 ghost use Rattle.std.specs.Prelude.{◌≡◌, ℕ, ◌+◌, ◌-◌, ◌<◌, ◌≤◌, ◌^◌, ◌⊎◌, All, length, slice_index};
 ghost use Rattle.lane_min.specs.Counted.{counted, matched};
 

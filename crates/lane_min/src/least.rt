@@ -1,3 +1,5 @@
+//! `least_sum`.
+
 ghost use Rattle.std.specs.Prelude.{◌≡◌, ℕ, pos, ◌+◌, ◌-◌, ◌%◌, ◌<◌, ◌≤◌, length, slice_index_or, IfSome, IfNone, IsTrue, IsFalse};
 ghost use Rattle.lane_min.specs.LeastSum.{sum_at, AreSmall, IsLeastSum};
 ghost use Rattle.lane_min.specs.Running.{IsAhead, AreRunning};

@@ -1,3 +1,5 @@
+//! Numbers, drawn one after another.
+
 ghost use Rattle.std.specs.Prelude.{◌≡◌, ◌≤◌, ◌<◌};
 ghost use Rattle.made_days.specs.Draws.{next, answer};
 

@@ -1,3 +1,5 @@
+//! The law.
+
 ghost use Rattle.made_days.specs.Laws.{EachDayIsSound};
 
 /// The day of each number is sound.

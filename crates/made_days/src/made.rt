@@ -1,3 +1,5 @@
+//! The cells of a code, and the day.
+
 ghost use Rattle.std.specs.Prelude.{◌≡◌, ◌≤◌, ◌<◌, ◌++◌, ◌∷◌, [], IfOk, OnOk};
 ghost use Rattle.roster_model.specs.Demands.{demand_cells, all_cells};
 ghost use Rattle.roster_model.specs.SoundInstance.{IsSoundInstance};

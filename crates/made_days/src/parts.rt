@@ -1,3 +1,5 @@
+//! The parts of the day's grammar.
+
 ghost use Rattle.std.specs.Prelude.{◌≡◌, IfOk, map, [], ◌∷◌};
 ghost use Rattle.made_days.specs.Built.{rule_of};
 ghost use Rattle.made_days.specs.Made.{made_codes, made_grammar};

@@ -1,3 +1,5 @@
+//! The rows, added one by one.
+
 ghost use Rattle.std.specs.Prelude.{ℕ, ◌≡◌, ◌≤◌, ◌<◌, ◌+◌, ◌++◌, ◌^◌, pos, cond, [], ◌∷◌, length, OnOk};
 ghost use Rattle.roster_model.specs.Folds.{Each};
 ghost use Rattle.bound_laws.specs.master_laws.Rows.{cut_rows, has_floor, has_ceiling};

@@ -1,3 +1,5 @@
+//! The entries of a column, row by row.
+
 ghost use Rattle.std.specs.Prelude.{ℕ, ℤ, ◌≡◌, ◌≤◌, ◌<◌, ◌+◌, pos, cond, Some, nat_lt, [], length, slice_get, slice_index_or, OnOk};
 ghost use Rattle.roster_model.specs.declared.instance.Cut.{Cut as PathCut};
 ghost use Rattle.roster_model.specs.Folds.{count};

@@ -1,3 +1,5 @@
+//! Trees of the least reduced costs.
+
 ghost use Rattle.std.specs.Prelude.{◌<◌, All, IfOk, length};
 
 use crate::rows::NodeRows;

@@ -1,3 +1,5 @@
+//! The rows, and their calls.
+
 ghost use Rattle.std.specs.Prelude.{ℕ, ℤ, ◌+ℤ◌, ◌≡◌, ◌≤◌, ◌<◌, ◌+◌, ◌++◌, ◌^◌, pos, Some, List as Items, ◌∷◌, length, slice_get, unsigned_abs, count_by, All, IfOk, IfSome, IfNone};
 ghost use Rattle.roster_model.specs.declared.instance.Cut.{Cut as PathCut};
 ghost use Rattle.roster_model.specs.declared.instance.Instance.{Instance as Day};

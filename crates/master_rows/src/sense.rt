@@ -1,3 +1,5 @@
+//! How a row is met, and what a unit missing or beyond costs.
+
 ghost use Rattle.std.specs.Prelude.{◌≡◌};
 ghost use Rattle.master_rows.specs.NodeRows.{missing_price, beyond_price};
 

@@ -1,3 +1,5 @@
+//! What the trees and the residuals cost.
+
 ghost use Rattle.std.specs.Prelude.{ℕ, ℤ, ◌≡◌, ◌≤◌, ◌<◌, ◌-◌, ◌*◌, ◌^◌, pos, cond, nat_lt, nat_eq, unsigned_abs, Some, List as Items, All, IfSome, IfNone, length, slice_get};
 ghost use Rattle.roster_model.specs.declared.instance.Cut.{Cut as PathCut};
 ghost use Rattle.roster_model.specs.declared.instance.Instance.{Instance as Day};

@@ -1,3 +1,5 @@
+//! What the trees bring to each row.
+
 ghost use Rattle.std.specs.Prelude.{ℕ, ◌≡◌, ◌≤◌, ◌<◌, ◌+◌, ◌^◌, Some, List as Items, All, IfOk, length, slice_get};
 ghost use Rattle.roster_model.specs.Folds.{Each};
 ghost use Rattle.roster_model.specs.Limits.{IsSmallCut};

@@ -1,3 +1,5 @@
+//! The columns over what is lent.
+
 use crate::desk::ColumnDesk;
 use crate::listed::{check_narrow, find_cheaper};
 use crate::trees::list_cheapest;

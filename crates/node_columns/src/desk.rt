@@ -1,3 +1,5 @@
+//! The desk.
+
 use fraction::Place;
 use roster_model::{List, PriceRoom, TreeRoom};
 

@@ -1,3 +1,5 @@
+//! Reduced costs of listed columns.
+
 ghost use Rattle.std.specs.Prelude.{◌≡◌, ◌≤◌, ◌<◌, ◌^◌, pos, ◌*ℤ◌, ◌≤ℤ◌, ◌<ℤ◌, length, unsigned_abs, ℤ, All, IfOk, IfErr, IfSome, IfNone};
 ghost use Rattle.roster_model.specs.Sums.{Within};
 ghost use Rattle.fraction.specs.Row.{at};

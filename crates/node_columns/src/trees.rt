@@ -1,3 +1,5 @@
+//! A cheapest tree.
+
 ghost use Rattle.std.specs.Prelude.{ℤ, ◌≡◌, ◌≤◌, ◌<◌, ◌^◌, length, unsigned_abs, All, IfOk, IfErr, IfSome, IfNone};
 ghost use Rattle.std.specs.Bool.{OnTrue, OnFalse};
 ghost use Rattle.roster_model.specs.PriceRooms.{IsRoomFor};

@@ -1,3 +1,5 @@
+//! The weights.
+
 ghost use Rattle.std.specs.Prelude.{◌<◌, length, All, IfOk, IfSome, IfNone};
 ghost use Rattle.tableau.specs.declared.simplex.Basic.{Basic as BasicColumn};
 ghost use Rattle.node_columns.specs.Weights.{TellsLeftOut, TellsTaken, AreWeightsOf};

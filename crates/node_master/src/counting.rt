@@ -1,3 +1,5 @@
+//! Ends that are counted.
+
 ghost use Rattle.std.specs.Prelude.{◌≡◌, ◌≤◌};
 ghost use Rattle.node_master.specs.Counted.{IsCounted};
 ghost use Rattle.node_master.specs.Refusals.{counted};

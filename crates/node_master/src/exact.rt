@@ -1,3 +1,5 @@
+//! The exact path.
+
 ghost use Rattle.std.specs.Prelude.{◌<◌, All, Bool, length, IfOk};
 ghost use Rattle.tableau.specs.declared.simplex.Basic.{Basic as BasicColumn};
 ghost use Rattle.node_columns.specs.Columns.{IsDesk};

@@ -1,3 +1,5 @@
+//! The prices at its end, rounded.
+
 ghost use Rattle.std.specs.Prelude.{◌≡◌, ◌+◌, length, IfOk};
 ghost use Rattle.master_rows.specs.node_task.Tasks.{IsTask};
 ghost use Rattle.node_master.specs.Tasks.{ArePathPrices, AreRounded};

@@ -1,3 +1,5 @@
+//! Which way the call goes first.
+
 ghost use Rattle.std.specs.Prelude.{IfOk};
 ghost use Rattle.search_columns.specs.Tools.{StayTools};
 ghost use Rattle.node_master.specs.Tasks.{MaySolve, EndsCounted};

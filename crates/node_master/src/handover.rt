@@ -1,3 +1,5 @@
+//! What goes from node to node.
+
 use roster_model::List;
 use scout::LastBasis;
 use std::alloc::Global;

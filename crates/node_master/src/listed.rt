@@ -1,3 +1,5 @@
+//! The weights of listed trees.
+
 ghost use Rattle.std.specs.Prelude.{◌≡◌, ◌≤◌, ◌<◌, ◌^◌, All, IsTrue, IfOk};
 ghost use Rattle.near_prices.specs.declared.listed.ListedTree.{ListedTree as Tree};
 ghost use Rattle.near_prices.specs.Listed.{IsListed};

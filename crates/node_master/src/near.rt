@@ -1,3 +1,5 @@
+//! Near ends.
+
 ghost use Rattle.std.specs.Prelude.{◌^◌, Bool, List as Items, length, IsTrue, IfOk, IfSome};
 ghost use Rattle.roster_model.specs.PriceLimits.{FitPrices};
 ghost use Rattle.roster_model.specs.Sums.{Within};

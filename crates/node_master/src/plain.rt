@@ -1,3 +1,5 @@
+//! The plain master.
+
 ghost use Rattle.std.specs.Prelude.{◌≡◌, IfOk, true};
 ghost use Rattle.search_columns.specs.Tools.{AreTools, StayTools};
 ghost use Rattle.node_master.specs.Refusals.{EndsWell};

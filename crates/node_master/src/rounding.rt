@@ -1,3 +1,5 @@
+//! Near prices, rounded.
+
 ghost use Rattle.std.specs.Prelude.{pos, ◌<ℤ◌, IsTrue, IfOk, IfSome};
 ghost use Rattle.roster_model.specs.declared.instance.Mult.{Mult as Multiplier};
 ghost use Rattle.roster_model.specs.Folds.{Each};

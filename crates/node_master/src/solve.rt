@@ -1,3 +1,5 @@
+//! The call.
+
 ghost use Rattle.std.specs.Prelude.{◌≡◌, ◌≤◌, Bool, Option, List as Items, Ok, true, IfOk};
 ghost use Rattle.roster_model.specs.declared.instance.Prices.{Prices as PriceList};
 ghost use Rattle.tree_pool.specs.Pools.{PoolTree};

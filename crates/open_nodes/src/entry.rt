@@ -1,3 +1,5 @@
+//! An entry of the heap.
+
 use std::cmp::Reverse;
 
 /// What the heap has of an open leaf. The greatest comes first: that of the least bound, of these the

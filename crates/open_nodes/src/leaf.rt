@@ -1,3 +1,5 @@
+//! An open leaf, and what is kept of it.
+
 /// Where a node is to be split.
 #[derive(Clone, Copy, Debug, PartialEq, Eq, Drop)]
 pub struct Plan {

@@ -1,3 +1,5 @@
+//! The heap and the slab.
+
 ghost use Rattle.std.specs.Prelude.{◌≡◌, ◌≤◌, [], ◌∷◌, IfNone, MatchOption, OnOk, OnErr, length};
 ghost use Rattle.roster_model.specs.Folds.{Each};
 ghost use Rattle.open_nodes.specs.Queues.{SameLeaves};

@@ -1,3 +1,5 @@
+//! What shows a roster, and that of an accepted certificate.
+
 ghost use Rattle.std.specs.Prelude.{◌≡◌, IfOk, IfSome, Ok as Is};
 ghost use Rattle.std.specs.Option.{option_copied};
 ghost use Rattle.certificates.specs.certificate_laws.Accepted.{Accepts};

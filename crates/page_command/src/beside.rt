@@ -1,3 +1,5 @@
+//! A page beside an old roster.
+
 ghost use Rattle.std.specs.Prelude.{[], ◌∷◌};
 ghost use Rattle.answers.specs.Reader.{IsReader};
 ghost use Rattle.page_command.specs.Check.{AnswersBeside, AnswersBesideRules, AnswersOldText};

@@ -1,3 +1,5 @@
+//! A page or a table, without labels and under them, and what is answered to their texts.
+
 ghost use Rattle.std.specs.Prelude.{[], ◌∷◌, IfOk};
 ghost use Rattle.std.specs.Option.{option_copied};
 ghost use Rattle.roster_model.specs.SoundInstance.{IsSoundInstance};

@@ -1,3 +1,5 @@
+//! A calendar.
+
 ghost use Rattle.std.specs.Prelude.{[], ◌∷◌, IfOk};
 ghost use Rattle.roster_model.specs.SoundInstance.{IsSoundInstance};
 ghost use Rattle.answers.specs.Reader.{IsReader};

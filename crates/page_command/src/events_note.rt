@@ -1,3 +1,5 @@
+//! What is noted of the events of shifts.
+
 ghost use Rattle.std.specs.Prelude.{◌≡◌};
 ghost use Rattle.roster_model.specs.SoundInstance.{IsSoundInstance};
 

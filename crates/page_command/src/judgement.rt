@@ -1,3 +1,5 @@
+//! A certificate judged as `check` does, or a report.
+
 ghost use Rattle.std.specs.Prelude.{◌≡◌, IfOk, IfSome};
 ghost use Rattle.std.specs.Option.{option_copied};
 ghost use Rattle.roster_model.specs.SoundInstance.{IsSoundInstance};

@@ -1,3 +1,5 @@
+//! The laws.
+
 ghost use Rattle.std.specs.Prelude.{ℕ, ◌≡◌, List, ◌∷◌};
 ghost use Rattle.roster_model.specs.declared.grammar.Grammar.{Grammar};
 ghost use Rattle.roster_model.specs.declared.instance.Group.{Group};

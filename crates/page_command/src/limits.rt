@@ -1,3 +1,5 @@
+//! How many bytes labels and an old text have at most.
+
 use answers::MOST_PROOF;
 
 /// A labels text has at most so many bytes.

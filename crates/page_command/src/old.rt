@@ -1,3 +1,5 @@
+//! The shifts of an old text.
+
 ghost use Rattle.std.specs.Prelude.{◌≡◌, ◌≢◌, ◌<◌, ◌≤◌, Err as Refused, IfOk, IfSome, length, position};
 ghost use Rattle.roster_model.specs.Folds.{Each};
 ghost use Rattle.roster_model.specs.SoundInstance.{IsSoundInstance};

@@ -1,3 +1,5 @@
+//! Why an old text is refused.
+
 ghost use Rattle.std.specs.Prelude.{◌≡◌, ◌≤◌, ◌++◌, codes, drop, length, IfOk};
 ghost use Rattle.page_command.specs.Old.{fault_line, old_line};
 ghost use Rattle.proof_pieces.specs.FaultLine as proof_text;

@@ -1,3 +1,5 @@
+//! `run`, and words of no form.
+
 ghost use Rattle.std.specs.Prelude.{[], map, string_bytes};
 ghost use Rattle.answers.specs.Reader.{IsReader};
 ghost use Rattle.page_command.specs.Run.{AnswersNoForm, Does};

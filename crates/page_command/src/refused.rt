@@ -1,3 +1,5 @@
+//! A line in place of what would be shown.
+
 ghost use Rattle.std.specs.Prelude.{◌≡◌, ◌≢◌, true, false, Err as Refused, IfOk};
 ghost use Rattle.roster_model.specs.SoundInstance.{IsSoundInstance};
 ghost use Rattle.page_labels.specs.LabelsOf.{labels_of};

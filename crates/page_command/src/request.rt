@@ -1,3 +1,5 @@
+//! What is asked, and by which texts.
+
 ghost use Rattle.std.specs.Prelude.{◌≡◌, IfOk};
 ghost use Rattle.std.specs.Option.{option_copied};
 ghost use Rattle.roster_model.specs.SoundInstance.{IsSoundInstance};

@@ -1,3 +1,5 @@
+//! The page of a day of four periods as one whole text, and parts of others.
+
 use crate::transcripts::{answer, has_answer, have_answers, shelf_of};
 use shelf::MemoryShelf;
 use std::alloc::Global;

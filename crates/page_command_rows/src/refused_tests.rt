@@ -1,3 +1,5 @@
+//! Each call of each form where it is refused, and words and texts that are refused.
+
 use crate::transcripts::{answer, have_answers, shelf_of};
 use shelf::MemoryShelf;
 use std::alloc::Global;

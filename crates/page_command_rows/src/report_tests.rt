@@ -1,3 +1,5 @@
+//! Reports in place of certificates, and old rosters beside which a page is shown.
+
 use crate::transcripts::have_answers;
 use std::test::Fail;
 

@@ -1,3 +1,5 @@
+//! Tables of coverage, tables with names and decimals, and calendars of one shift.
+
 use crate::transcripts::{answer, have_answers, shelf_of};
 use std::alloc::Global;
 use std::test::Fail;

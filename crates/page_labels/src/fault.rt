@@ -1,3 +1,5 @@
+//! The faults.
+
 use roster_model::Memory;
 use thiserror::Error;
 

@@ -1,3 +1,5 @@
+//! The words of lines.
+
 ghost use Rattle.std.specs.Prelude.{◌≡◌, ◌<◌, ◌≤◌, ◌==◌, length, position, IfOk, IfSome};
 ghost use Rattle.page_labels.specs.Fields.{checked, code_at, group_at, has_name, joined, words_at};
 ghost use Rattle.page_labels.specs.Steps.{Reads};

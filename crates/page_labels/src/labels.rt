@@ -1,3 +1,5 @@
+//! What a text says.
+
 ghost use Rattle.std.specs.Prelude.{◌≡◌, ◌==◌, [], None};
 ghost use Rattle.std.specs.List.{list_any};
 ghost use Rattle.page_labels.specs.Labels.{

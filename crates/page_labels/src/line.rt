@@ -1,3 +1,5 @@
+//! The lines.
+
 ghost use Rattle.std.specs.Prelude.{◌≡◌, ◌≤◌, length};
 ghost use Rattle.page_labels.specs.LabelLines.{
   clock_at,

@@ -1,3 +1,5 @@
+//! Names at the shifts of a roster.
+
 ghost use Rattle.std.specs.Prelude.{◌≡◌};
 ghost use Rattle.page_labels.specs.Shifts.{is_its_shift, refused_shift, refused_at};
 

@@ -1,3 +1,5 @@
+//! The lines of shifts.
+
 ghost use Rattle.std.specs.Prelude.{◌≡◌, ◌≤◌, length, IfOk};
 ghost use Rattle.page_labels.specs.LabelLines.{grouped_at, shift_at, worded_at};
 ghost use Rattle.page_labels.specs.Steps.{Reads};

@@ -1,3 +1,5 @@
+//! Where a rectangle stands.
+
 /// Where a rectangle stands, from the left and the top of its chart, and how large it is.
 #[derive(Clone, Copy, Debug, PartialEq, Eq, Drop)]
 pub struct Area {

@@ -1,3 +1,5 @@
+//! Numbers with decimals.
+
 ghost use Rattle.std.specs.Prelude.{◌≡◌, ◌++◌, ◌∷◌, [], OnOk};
 ghost use Rattle.std.specs.Fmt.{decimal};
 ghost use Rattle.page_parts.specs.Elements as page;

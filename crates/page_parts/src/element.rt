@@ -1,3 +1,5 @@
+//! Elements, one each.
+
 ghost use Rattle.std.specs.Prelude.{◌≡◌, ◌++◌, ◌∷◌, [], OnOk};
 ghost use Rattle.std.specs.Fmt.{decimal};
 ghost use Rattle.page_parts.specs.Elements as page;

@@ -1,3 +1,5 @@
+//! Marks, and a number or bytes behind them.
+
 ghost use Rattle.std.specs.Prelude.{◌≡◌, ◌++◌, ◌∷◌, [], OnOk};
 ghost use Rattle.page_parts.specs.Elements as page;
 ghost use Rattle.page_parts.specs.Elements.{written};

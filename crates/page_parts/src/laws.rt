@@ -1,3 +1,5 @@
+//! The laws.
+
 ghost use Rattle.std.specs.Prelude.{ℕ, ◌≡◌, ◌∷◌, [], List};
 ghost use Rattle.std.specs.List.{flat_map};
 ghost use Rattle.roster_model.specs.declared.grammar.CodeDef.{CodeDef};

@@ -1,3 +1,5 @@
+//! Amounts, and what they are counted in.
+
 ghost use Rattle.std.specs.Prelude.{◌≡◌, ◌++◌, ◌∷◌, [], OnOk, length};
 ghost use Rattle.page_parts.specs.Amounts.{amount, unit_behind};
 ghost use Rattle.page_parts.specs.Elements as page;

@@ -1,3 +1,5 @@
+//! The classes of codes.
+
 ghost use Rattle.std.specs.Prelude.{◌≡◌, ◌≤◌};
 ghost use Rattle.page_parts.specs.Paints.{paint, paint_of};
 

@@ -1,3 +1,5 @@
+//! Where periods and rows stand.
+
 ghost use Rattle.std.specs.Prelude.{◌≡◌, ◌≤◌, ◌+◌, ◌*◌, ◌/◌, ◌^◌, min, max};
 ghost use Rattle.page_parts.specs.Sheets.{chart_width, left_of, middle_of, right_of, sheet_of, top_of, width_of};
 

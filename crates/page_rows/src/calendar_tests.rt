@@ -1,3 +1,5 @@
+//! Calendars with folded and escaped lines, equal shifts and time off; dates.
+
 ghost use Rattle.std.specs.Prelude.{◌≤◌, ◌↔◌, All, IsTrue, length};
 ghost use Rattle.roster_model.specs.SoundInstance.{IsSoundInstance};
 

@@ -1,3 +1,5 @@
+//! Which old shift each new one has, and what differs.
+
 ghost use Rattle.std.specs.Prelude.{◌≤◌, length};
 
 use crate::days::{ShiftParts, roster};

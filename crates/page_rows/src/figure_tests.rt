@@ -1,3 +1,5 @@
+//! Stretches, periods, shares and savings.
+
 use roster_model::CodeDef;
 use shift_figures::{
     Saving, Stretch, covered_share, paid_periods, saving_at, stretch_of, work_periods,

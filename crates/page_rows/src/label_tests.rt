@@ -1,3 +1,5 @@
+//! Labels texts with each kind of line, and refused ones; times and durations.
+
 ghost use Rattle.roster_model.specs.SoundInstance.{IsSoundInstance};
 
 use crate::days::{ShiftParts, day, roster};

@@ -1,3 +1,5 @@
+//! Amounts with decimals, and how wide names are and how they end.
+
 use page_parts::{name_caption, text_width, units};
 use roster_model::{List, Memory};
 use std::alloc::Global;

@@ -1,3 +1,5 @@
+//! How many employees have a shift.
+
 ghost use Rattle.std.specs.Prelude.{◌≡◌, ◌++◌, codes as text, OnOk};
 ghost use Rattle.page_parts.specs.Elements.{written};
 ghost use Rattle.page_tables.specs.HeadTable.{head_end, head_line, head_lines, head_table};

@@ -1,3 +1,5 @@
+//! The law.
+
 ghost use Rattle.std.specs.Prelude.{◌≡◌};
 ghost use Rattle.page_parts.specs.Amounts.{AreSaidAlike};
 ghost use Rattle.page_parts.specs.Escapes.{marks_of};

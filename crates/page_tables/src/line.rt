@@ -1,3 +1,5 @@
+//! The lines.
+
 use roster_model::List;
 
 /// A line of the table of shifts: a shift, or a stretch of it where time off is named.

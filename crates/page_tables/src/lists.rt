@@ -1,3 +1,5 @@
+//! The lists of runs.
+
 ghost use Rattle.std.specs.Prelude.{◌≡◌, ◌++◌, codes as text, length, OnOk};
 ghost use Rattle.page_parts.specs.Elements.{written};
 ghost use Rattle.page_tables.specs.RunLists.{run_end, run_front, run_line, run_lines, run_list, run_table};

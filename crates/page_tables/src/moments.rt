@@ -1,3 +1,5 @@
+//! How many begin and end at each time.
+
 ghost use Rattle.std.specs.Prelude.{◌≡◌, ◌++◌, codes as text, length, OnOk};
 ghost use Rattle.page_parts.specs.Elements.{written};
 ghost use Rattle.page_tables.specs.MomentTable.{moment_line, moment_lines, moment_list, moment_table};

@@ -1,3 +1,5 @@
+//! The table of the shifts.
+
 ghost use Rattle.std.specs.Prelude.{◌≡◌, ◌++◌, codes as text, length, OnOk};
 ghost use Rattle.page_parts.specs.Elements.{written};
 ghost use Rattle.page_tables.specs.ShiftTable.{first_cells, group_head, last_cells, line_end, line_front, shift_line, shift_lines, shift_table, text_cell, text_cell_if, who_head};

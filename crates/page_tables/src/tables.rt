@@ -1,3 +1,5 @@
+//! All of them.
+
 ghost use Rattle.std.specs.Prelude.{◌≡◌, ◌++◌, length, OnOk};
 ghost use Rattle.page_parts.specs.Elements.{written};
 ghost use Rattle.page_tables.specs.Tables.{page_tables, some_tables};

@@ -1,3 +1,5 @@
+//! The table of the codes, and the share of the need that is covered in all.
+
 ghost use Rattle.std.specs.Prelude.{◌≡◌, ◌/◌, ◌%◌, ◌++◌, codes as text, OnOk};
 ghost use Rattle.page_parts.specs.Elements.{written};
 ghost use Rattle.page_tables.specs.TotalTable.{all_line, all_share, share_cell, share_of, total_front, total_line, total_lines, total_table};

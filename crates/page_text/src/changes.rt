@@ -1,3 +1,5 @@
+//! How much differs from an old roster.
+
 ghost use Rattle.std.specs.Prelude.{◌≡◌, ◌++◌, OnOk};
 ghost use Rattle.page_parts.specs.Elements.{written};
 ghost use Rattle.page_text.specs.Changes.{changes_part, differ, none_differ, plural, some_differ};

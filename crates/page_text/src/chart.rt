@@ -1,3 +1,5 @@
+//! The chart of one code.
+
 ghost use Rattle.std.specs.Prelude.{◌≡◌, ◌≤◌, ◌+◌, ◌*◌, ◌^◌, ◌++◌, ◌∷◌, OnOk};
 ghost use Rattle.page_parts.specs.Elements as page;
 ghost use Rattle.page_parts.specs.Elements.{written};

@@ -1,3 +1,5 @@
+//! How a code is covered in one period.
+
 ghost use Rattle.std.specs.Prelude.{◌≡◌, ◌≤◌, ◌++◌, All, length, map, OnOk};
 ghost use Rattle.roster_model.specs.Duties.{duty};
 ghost use Rattle.roster_model.specs.Limits.{IsDayCell};

@@ -1,3 +1,5 @@
+//! What a page shows.
+
 use crate::changes::Changes;
 use crate::row::Row;
 use crate::{CellCover, Figures};

@@ -1,3 +1,5 @@
+//! The sentence, the figures and the penalties.
+
 ghost use Rattle.std.specs.Prelude.{◌≡◌, ◌≤◌, ◌+◌, ◌^◌, ◌++◌, ◌∷◌, length, OnOk};
 ghost use Rattle.page_parts.specs.Elements as page;
 ghost use Rattle.page_parts.specs.Elements.{written};

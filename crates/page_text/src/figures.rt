@@ -1,3 +1,5 @@
+//! What a roster costs.
+
 /// What a roster costs.
 #[derive(Clone, Copy, Debug, PartialEq, Eq, Drop)]
 pub struct Figures {

@@ -1,3 +1,5 @@
+//! What a column brings to a chart.
+
 /// What a column brings to a chart.
 #[derive(Clone, Copy, Drop)]
 pub(crate) enum Ink {

@@ -1,3 +1,5 @@
+//! The laws.
+
 ghost use Rattle.std.specs.Prelude.{ℕ, ◌≡◌, List, codes as text, length, min};
 ghost use Rattle.roster_model.specs.declared.grammar.CodeDef.{CodeDef};
 ghost use Rattle.page_parts.specs.Elements.{written};

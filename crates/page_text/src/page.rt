@@ -1,3 +1,5 @@
+//! The whole page.
+
 ghost use Rattle.std.specs.Prelude.{◌≡◌, ◌≤◌, ◌++◌, codes as text, length, IfOk, OnOk};
 ghost use Rattle.page_text.specs.Costs.{AreDayColumns};
 ghost use Rattle.page_parts.specs.Elements.{written};

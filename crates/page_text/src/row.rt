@@ -1,3 +1,5 @@
+//! A row of it.
+
 ghost use Rattle.std.specs.Prelude.{◌≡◌, ◌≤◌, max, length};
 ghost use Rattle.page_text.specs.Inputs.{longest};
 

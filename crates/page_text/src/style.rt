@@ -1,3 +1,5 @@
+//! The style of a page.
+
 ghost use Rattle.std.specs.Prelude.{◌≡◌};
 ghost use Rattle.page_text.specs.Style.{style};
 

@@ -1,3 +1,5 @@
+//! Why no graph is built.
+
 use roster_model::Memory;
 
 /// Why no graph is built.

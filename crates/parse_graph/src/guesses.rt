@@ -1,3 +1,5 @@
+//! A number at the place that a node's key tells, tested before it is used.
+
 ghost use Rattle.std.specs.Prelude.{◌≡◌, ◌≤◌, Some, IfSome, slice_get};
 
 use crate::node::NodeKey;

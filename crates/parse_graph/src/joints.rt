@@ -1,3 +1,5 @@
+//! What joins some arcs and their nodes.
+
 ghost use Rattle.std.specs.Prelude.{◌≡◌, ◌≤◌, ◌<◌, ◌^◌, All, IfOk, length};
 ghost use Rattle.roster_model.specs.Sound.{IsSound};
 ghost use Rattle.parse_graph.specs.Graphs.{HasArcs};

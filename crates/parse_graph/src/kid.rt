@@ -1,3 +1,5 @@
+//! What an arc has below it.
+
 /// What an arc has below it: its first part, or what follows that part.
 #[derive(Clone, Copy, Debug, PartialEq, Eq, Drop)]
 pub enum Kid {

@@ -1,3 +1,5 @@
+//! Nodes numbered, what each arc makes and uses.
+
 ghost use Rattle.std.specs.Prelude.{◌≡◌, ◌≤◌, ◌<◌, ◌+◌, ◌++◌, ◌∷◌, [], Some, All, length, map, slice_get, IfOk, OnOk, List as Items};
 ghost use Rattle.roster_model.specs.declared.grammar.ArcKey.{ArcKey as Arc};
 ghost use Rattle.roster_model.specs.Sound.{IsSound};

@@ -1,3 +1,5 @@
+//! The key of a node.
+
 /// A node of the graph: a name, or a suffix of a rule from its second symbol on, on a span.
 #[derive(Clone, Copy, PartialEq, Eq, Hash, Drop)]
 pub enum NodeKey {

@@ -1,3 +1,5 @@
+//! Lists with room.
+
 ghost use Rattle.std.specs.Prelude.{◌≡◌, [], IfOk};
 
 use roster_model::{List, Memory};

@@ -1,3 +1,5 @@
+//! Where an arc stands among all.
+
 ghost use Rattle.std.specs.Prelude.{◌≡◌, ◌↔◌, ◌<◌, ◌≤◌, IsTrue, Some, IfSome, IfNone, length, slice_get};
 ghost use Rattle.roster_model.specs.Folds.{In};
 ghost use Rattle.roster_model.specs.Arcs.{ArcBefore};

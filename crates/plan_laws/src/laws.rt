@@ -1,3 +1,5 @@
+//! The laws.
+
 ghost use Rattle.plan_laws.specs.Laws.{PlanLaw};
 ghost use Rattle.plan_laws.specs.PlanRules.{RulesLaw};
 ghost use Rattle.plan_laws.specs.Readings.{ReadingLaw};

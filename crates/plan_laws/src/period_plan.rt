@@ -1,3 +1,5 @@
+//! A plan in numbers of periods.
+
 use roster_model::{List, Window};
 
 /// A code of work, or a pause.

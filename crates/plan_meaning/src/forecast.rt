@@ -1,3 +1,5 @@
+//! What a forecast asks.
+
 use roster_model::List;
 
 /// What a forecast asks of one code: a number for each step, in order.

@@ -1,3 +1,5 @@
+//! The laws.
+
 ghost use Rattle.std.specs.Prelude.{◌≡◌, false};
 ghost use Rattle.plan_meaning.specs.declared.plan.PlanDay.{PlanDay};
 ghost use Rattle.plan_meaning.specs.declared.plan.Time.{Time};

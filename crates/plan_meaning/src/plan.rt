@@ -1,3 +1,5 @@
+//! What a plan says.
+
 use roster_model::List;
 
 /// A time as it is written.

@@ -1,3 +1,5 @@
+//! A whole plan.
+
 ghost use Rattle.std.specs.Prelude.{◌≡◌, ◌≤◌, All, IfOk, map};
 ghost use Rattle.plan_meaning.specs.Times.{periods};
 ghost use Rattle.plan_meaning.specs.Whole.{IsFirstStart, IsWholePlan};

@@ -1,3 +1,5 @@
+//! Amounts and costs.
+
 use plan_words::{WordFault, amount, cost};
 
 /// How many decimals amounts have, a word, and its units.

@@ -1,3 +1,5 @@
+//! Days, lengths, times, and what an hour costs.
+
 ghost use Rattle.std.specs.Prelude.{◌≡◌, ◌≤◌};
 
 use plan_meaning::{PlanDay, Time};

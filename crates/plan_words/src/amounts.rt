@@ -1,3 +1,5 @@
+//! Amounts in units.
+
 ghost use Rattle.std.specs.Prelude.{◌≡◌, ◌≤◌, ◌<◌, ◌==◌, ◌*◌, ◌^◌, drop, length, take, IfOk};
 ghost use Rattle.std.specs.List.{list_all, position_or_len};
 ghost use Rattle.text_lines.specs.Numbers.{is_digit};

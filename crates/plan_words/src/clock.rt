@@ -1,3 +1,5 @@
+//! Times as minutes behind the day's begin.
+
 ghost use Rattle.std.specs.Prelude.{◌≡◌, ◌≤◌, ◌+◌};
 ghost use Rattle.plan_meaning.specs.Times.{begin_behind, begin_minute, behind_begin, day_length, end_behind, shown_behind, shown_next};
 

@@ -1,3 +1,5 @@
+//! Days of whole periods.
+
 ghost use Rattle.std.specs.Prelude.{◌≡◌, ◌≤◌, ◌+◌, ◌/◌, ◌%◌};
 ghost use Rattle.plan_meaning.specs.Times.{begin_behind, begin_minute, day_length, end_behind};
 ghost use Rattle.plan_words.specs.Days.{day_of, IsSoundDay};

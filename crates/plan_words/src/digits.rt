@@ -1,3 +1,5 @@
+//! Hours and minutes in digits.
+
 ghost use Rattle.std.specs.Prelude.{◌≡◌, ◌≤◌, ◌<◌, ◌-◌, IfSome};
 ghost use Rattle.text_lines.specs.Numbers.{is_digit};
 ghost use Rattle.plan_words.specs.Digits.{is_clock, minutes_at, two};

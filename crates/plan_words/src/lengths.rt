@@ -1,3 +1,5 @@
+//! Lengths.
+
 ghost use Rattle.std.specs.Prelude.{◌≡◌, ◌≤◌, IfOk, IfSome};
 ghost use Rattle.plan_words.specs.Digits.{clock_of};
 ghost use Rattle.plan_words.specs.Lengths.{length_at, most_periods, whole_length};

@@ -1,3 +1,5 @@
+//! Codes and names.
+
 ghost use Rattle.std.specs.Prelude.{◌≡◌, ◌≤◌, ◌<◌, length, slice_index};
 ghost use Rattle.std.specs.List.{list_all};
 ghost use Rattle.roster_model.specs.Names.{is_letter, is_window_word};

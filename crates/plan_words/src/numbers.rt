@@ -1,3 +1,5 @@
+//! Whole numbers.
+
 ghost use Rattle.std.specs.Prelude.{◌≡◌, ◌≤◌, IfOk};
 ghost use Rattle.plan_words.specs.Numbers.{number_at};
 

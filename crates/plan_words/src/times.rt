@@ -1,3 +1,5 @@
+//! Times of the day.
+
 ghost use Rattle.std.specs.Prelude.{◌≡◌, ◌≤◌, ◌+◌, IfOk, IfSome};
 ghost use Rattle.plan_meaning.specs.Times.{begin_minute, day_length};
 ghost use Rattle.plan_words.specs.TimeWords.{as_time, begin_at, clock_time, end_at, marked_time, outside_day, time_at, time_or};

@@ -1,3 +1,5 @@
+//! The denominator.
+
 ghost use Rattle.std.specs.Prelude.{ℕ, ℤ, ◌≤◌, ◌<◌, ◌^◌, pos, ◌<ℤ◌, List, ◌++◌, IfSome, IfNone};
 ghost use Rattle.fraction.specs.Range.{InRange};
 ghost use Rattle.bound_laws.specs.master_laws.Rounding.{IsLeastWhole, IsDenominator};

@@ -1,3 +1,5 @@
+//! Prices of cells and multipliers of cuts.
+
 ghost use Rattle.std.specs.Prelude.{ℕ, ℤ, ◌≡◌, ◌≤◌, ◌<◌, ◌+◌, ◌^◌, pos, neg_ℤ, ◌+ℤ◌, ◌<ℤ◌, ◌≤ℤ◌, length, All, OnOk, OnErr, IfOk, IfErr};
 ghost use Rattle.roster_model.specs.Sums.{Within};
 ghost use Rattle.roster_model.specs.Reduced.{signed};

@@ -1,3 +1,5 @@
+//! `to_prices`, and why it may fail.
+
 ghost use Rattle.std.specs.Prelude.{ℕ, ◌≡◌, ◌≤◌, ◌+◌, ◌^◌, pos, ◌<ℤ◌, length, take, drop, All, IfOk, IfErr, unsigned_abs};
 ghost use Rattle.roster_model.specs.Folds.{Each};
 ghost use Rattle.roster_model.specs.Sums.{Within};

@@ -1,3 +1,5 @@
+//! A split of which one half is open.
+
 use roster_model::Cut;
 
 /// A split of which one half is open.

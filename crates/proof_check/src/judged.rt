@@ -1,3 +1,5 @@
+//! What judging a text finds.
+
 use certificates::Verdict;
 use proof_pieces::PieceFault;
 

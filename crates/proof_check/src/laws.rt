@@ -1,3 +1,5 @@
+//! The law.
+
 ghost use Rattle.proof_check.specs.YesOrNo.{YesIsAccepted};
 
 /// A verdict on a certificate is a yes if and only if the certificate is accepted.

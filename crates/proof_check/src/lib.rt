@@ -4,6 +4,9 @@
 //! tree of branch and bound. [`Walker::judge`] looks at its nodes one after another, with a stack of
 //! the splits that are open. It takes no memory, and rests on the definitions alone.
 //! [`Walker::judge_text`] judges a text piece by piece in the same way, and holds no list of nodes.
+//!
+//! Inside, a `Walker` has the tables, the rooms and a stack of open splits. What a stack of open splits still
+//! leads to is `specs/OpenSplits`; it stands here, since nobody needs to believe it.
 #![tactic(auto)]
 
 mod bench;

@@ -1,3 +1,5 @@
+//! A node whose prices stand elsewhere.
+
 ghost use Rattle.std.specs.Prelude.{◌≡◌};
 ghost use Rattle.proof_check.specs.Views.{prices_of, node_of};
 

@@ -1,3 +1,5 @@
+//! Rooms for what nodes show.
+
 ghost use Rattle.std.specs.Prelude.{◌≡◌, IfOk};
 ghost use Rattle.roster_model.specs.SoundInstance.{IsSoundInstance};
 ghost use Rattle.proof_check.specs.Rooms.{AreRoomsFor};

@@ -1,3 +1,5 @@
+//! What was seen of a text.
+
 ghost use Rattle.std.specs.Prelude.{◌≡◌, None, [], IfOk};
 
 use crate::walk::Walk;

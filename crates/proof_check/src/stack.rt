@@ -1,3 +1,5 @@
+//! The open splits, and the path of cuts.
+
 ghost use Rattle.std.specs.Prelude.{◌≡◌, ◌≤◌, ◌<◌, ℕ, min, List as Items, [], ◌∷◌, length, IfOk, MatchOption};
 ghost use Rattle.roster_model.specs.declared.instance.Instance.{Instance as Day};
 ghost use Rattle.certificates.specs.declared.cert.Node.{Node as ProofNode};

@@ -1,3 +1,5 @@
+//! The tables of a grammar's day.
+
 ghost use Rattle.std.specs.Prelude.{IfOk};
 ghost use Rattle.roster_model.specs.Sound.{IsSound};
 ghost use Rattle.proof_check.specs.Rooms.{AreTablesFor};

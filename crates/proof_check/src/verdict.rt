@@ -1,3 +1,5 @@
+//! A bound against what the nodes show.
+
 ghost use Rattle.std.specs.Prelude.{◌≡◌, ◌≤◌, ◌<◌, MatchOption};
 ghost use Rattle.roster_model.specs.SoundInstance.{IsSoundInstance};
 ghost use Rattle.certificates.specs.certificate_laws.Accepted.{bound_number};

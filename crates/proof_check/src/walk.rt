@@ -1,3 +1,5 @@
+//! Where a walk stands, and its first cause.
+
 ghost use Rattle.std.specs.Prelude.{◌≡◌};
 ghost use Rattle.certificates.specs.certificate_laws.Causes.{cause_number};
 ghost use Rattle.proof_check.specs.Walked.{lesser_cause};

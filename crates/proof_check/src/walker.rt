@@ -1,3 +1,5 @@
+//! One step over one node.
+
 ghost use Rattle.std.specs.Prelude.{◌≡◌, ◌≤◌, ◌<◌, Option, IfOk, IfSome, IsTrue, length};
 ghost use Rattle.roster_model.specs.SoundInstance.{IsSoundInstance};
 ghost use Rattle.roster_model.specs.declared.instance.Prices.{Prices as NodePrices};

@@ -1,3 +1,5 @@
+//! A cursor over lines that looks one line ahead.
+
 ghost use Rattle.std.specs.Prelude.{◌≡◌, ◌+◌, ◌^◌, ◌<◌, [], ◌∷◌, true, None, Ok, length, MatchOption};
 ghost use Rattle.text_lines.specs.Lines.{text_items};
 ghost use Rattle.proof_pieces.specs.Ahead.{with_held, NoMult, NoShift};

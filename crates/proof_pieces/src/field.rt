@@ -1,3 +1,5 @@
+//! Numbers, amounts and names of groups.
+
 ghost use Rattle.std.specs.Prelude.{◌≡◌, ◌+◌, ◌≤◌, ◌<◌, ◌^◌, length, unsigned_abs, IfOk, IfSome, position};
 ghost use Rattle.proof_pieces.specs.Fields.{number_at, signed_at, amount_at, has_name, group_at};
 

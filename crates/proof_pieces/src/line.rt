@@ -1,3 +1,5 @@
+//! Which form a line has.
+
 ghost use Rattle.std.specs.Prelude.{◌≡◌};
 ghost use Rattle.proof_pieces.specs.PieceList.{is_end};
 ghost use Rattle.proof_pieces.specs.PriceLines.{is_mult};

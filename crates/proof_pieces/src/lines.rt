@@ -1,3 +1,5 @@
+//! The next line, where the text may not end yet.
+
 ghost use Rattle.std.specs.Prelude.{◌≡◌, ◌∷◌, [], Ok, Err, OnOk, IfOk, IfErr};
 ghost use Rattle.roster_model.specs.declared.instance.Instance.{Instance as Day};
 ghost use Rattle.proof_pieces.specs.PieceList.{Spot, Place, IsOpen, pieces_from};

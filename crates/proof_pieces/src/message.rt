@@ -1,3 +1,5 @@
+//! The line of a fault.
+
 ghost use Rattle.std.specs.Prelude.{◌≡◌, ◌++◌, [], ◌∷◌, IfOk};
 ghost use Rattle.proof_pieces.specs.FaultLine.{line_of, fault_text, fault_line};
 

@@ -1,3 +1,5 @@
+//! The next piece.
+
 ghost use Rattle.std.specs.Prelude.{◌≡◌, ◌≤◌, ◌+◌, ◌<◌, [], ◌∷◌, Ok, Err, length, IfOk, IfSome, MatchResult, MatchOption};
 ghost use Rattle.roster_model.specs.declared.instance.Instance.{Instance as Day};
 ghost use Rattle.roster_model.specs.SoundInstance.{IsSoundInstance};

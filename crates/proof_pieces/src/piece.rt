@@ -1,3 +1,5 @@
+//! A piece.
+
 use roster_model::ArcKey;
 
 /// A piece of a proof text. Its word and its prices lie in the room with which it was read.

@@ -1,3 +1,5 @@
+//! The pieces of a text.
+
 ghost use Rattle.std.specs.Prelude.{◌≡◌, ◌≤◌, Bool, List, [], ◌∷◌, length, MatchOption};
 ghost use Rattle.roster_model.specs.SoundInstance.{IsSoundInstance};
 ghost use Rattle.proof_pieces.specs.PieceList.{text_reader, pieces_left, Follows};

@@ -1,3 +1,5 @@
+//! The room for what pieces hold.
+
 ghost use Rattle.std.specs.Prelude.{◌≡◌, ◌+◌, ◌<◌, ◌≤◌, [], ◌∷◌, ◌++◌, false, length, reverse, vec_capacity, IfOk};
 ghost use Rattle.proof_pieces.specs.PieceList.{after_leaf};
 ghost use Rattle.proof_pieces.specs.PriceLines.{last_cut};

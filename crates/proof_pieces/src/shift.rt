@@ -1,3 +1,5 @@
+//! The line of a shift.
+
 ghost use Rattle.std.specs.Prelude.{ℕ, ◌≡◌, ◌≤◌, ◌<◌, nat_le, if◌then◌else◌, Ok, Err, length, IfOk, MatchOption, MatchResult};
 ghost use Rattle.std.specs.Option.{option_copied};
 ghost use Rattle.roster_model.specs.declared.instance.Instance.{Instance as Day};

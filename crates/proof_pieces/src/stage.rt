@@ -1,3 +1,5 @@
+//! What a text goes on with.
+
 /// What a proof text goes on with.
 #[derive(Clone, Copy, Drop)]
 pub enum Stage {

@@ -1,3 +1,5 @@
+//! The law.
+
 ghost use Rattle.proof_reuse.specs.Laws.{OneReuse};
 
 /// An old certificate has one answer on a day: one bound, or one first cause among those on its nodes.

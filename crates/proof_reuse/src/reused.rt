@@ -1,3 +1,5 @@
+//! The text.
+
 ghost use Rattle.std.specs.Prelude.{◌≡◌, IfOk};
 ghost use Rattle.proof_reuse.specs.ReusedText.{bound_text, reused_text};
 

@@ -1,3 +1,5 @@
+//! The beginning of a list of rule uses, and its children.
+
 ghost use Rattle.std.specs.Prelude.{◌≡◌, ◌≤◌, ◌<◌, ◌+◌, OnOk, IfOk};
 ghost use Rattle.ranked_trees.specs.Candidates.{child_of};
 ghost use Rattle.ranked_trees.specs.Frames.{inside_of};

@@ -1,3 +1,5 @@
+//! The next rule uses.
+
 ghost use Rattle.std.specs.Prelude.{◌≡◌, ◌^◌, ◌+◌, ◌≤◌, ◌<◌, IfOk, OnOk, MatchOption, IfSome, Some, length, slice_get};
 ghost use Rattle.roster_model.specs.declared.grammar.Rule.{Rule as RuleValue};
 ghost use Rattle.roster_model.specs.Grammar.{rule_at};

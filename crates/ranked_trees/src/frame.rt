@@ -1,3 +1,5 @@
+//! Symbols that are still to be derived on a span.
+
 ghost use Rattle.std.specs.Prelude.{◌≡◌, ◌≤◌, ◌<◌, ◌+◌, Some, length, slice_get};
 ghost use Rattle.ranked_trees.specs.Frames.{IsFrame, right_of, after_part};
 

@@ -1,3 +1,5 @@
+//! The order of candidates.
+
 ghost use Rattle.std.specs.Prelude.{◌≢◌, ◌<ℤ◌, [], ◌∷◌, IsTrue, IsFalse};
 ghost use Rattle.std.specs.Bool.{OnTrue};
 ghost use Rattle.ranked_trees.specs.Ranking.{UsesBefore};

@@ -1,3 +1,5 @@
+//! All that is still to be derived.
+
 ghost use Rattle.std.specs.Prelude.{◌≡◌, [], ◌∷◌, OnOk, IfOk, MatchOption};
 
 use crate::frame::Frame;

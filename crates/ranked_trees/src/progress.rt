@@ -1,3 +1,5 @@
+//! The candidates that wait.
+
 ghost use Rattle.std.specs.Prelude.{◌≡◌, ◌≤◌, ◌<◌, ◌<ℤ◌, [], ◌∷◌, OnOk, length, take, drop};
 ghost use Rattle.std.specs.Bool.{OnTrue};
 ghost use Rattle.roster_model.specs.Folds.{Each};

@@ -1,3 +1,5 @@
+//! `rank`, and its answer.
+
 ghost use Rattle.std.specs.Prelude.{◌≡◌, ◌≤◌, [], ◌∷◌, IfOk};
 ghost use Rattle.roster_model.specs.Sound.{IsSound};
 ghost use Rattle.ranked_trees.specs.Frames.{IsSums};

@@ -1,3 +1,5 @@
+//! The least sums of the day.
+
 ghost use Rattle.std.specs.Prelude.{◌≡◌, ◌^◌, ◌+◌, ◌-◌, ◌≤◌, ◌<◌, IfSome, Some, drop, length};
 ghost use Rattle.roster_model.specs.Grammar.{rule_at, InDay};
 ghost use Rattle.roster_model.specs.Sums.{Within, PartsLeast, arc_sum};

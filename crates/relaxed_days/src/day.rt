@@ -1,3 +1,5 @@
+//! The relaxed day.
+
 ghost use Rattle.std.specs.Prelude.{◌≡◌, IfOk, map};
 ghost use Rattle.roster_model.specs.SoundInstance.{IsSoundInstance};
 ghost use Rattle.relaxed_days.specs.Relaxed.{relaxed_cell, relaxed_demand};

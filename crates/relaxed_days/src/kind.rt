@@ -1,3 +1,5 @@
+//! Floors or ceilings.
+
 /// Which bounds of a day are counted in place of being strict.
 #[derive(Clone, Copy, Debug, PartialEq, Eq, Drop)]
 pub enum Kind {

@@ -1,3 +1,5 @@
+//! The laws.
+
 ghost use Rattle.relaxed_days.specs.declared.kind.Kind.{Kind};
 ghost use Rattle.relaxed_days.specs.Laws.{
   RelaxedDaysTell,

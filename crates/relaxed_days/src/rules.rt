@@ -1,3 +1,5 @@
+//! Rules at no cost.
+
 ghost use Rattle.std.specs.Prelude.{◌≡◌, ◌++◌, ◌∷◌, [], IfOk, OnOk, map};
 ghost use Rattle.roster_model.specs.Sound.{IsPlain, IsSound};
 ghost use Rattle.relaxed_days.specs.FreeRules.{free_rule, free_rules};

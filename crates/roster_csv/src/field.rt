@@ -1,3 +1,5 @@
+//! The fields of a record.
+
 ghost use Rattle.std.specs.Prelude.{◌≡◌, ◌-◌, ◌++◌, [], ◌∷◌, ◌≤◌, IfOk, OnOk, length, if◌then◌else◌};
 ghost use Rattle.std.specs.Fmt.{decimal};
 ghost use Rattle.roster_csv.specs.Rows.{amount_of, name_of, place_of, price_of, with_place};

@@ -1,3 +1,5 @@
+//! The law.
+
 ghost use Rattle.std.specs.Prelude.{ℕ, ◌≡◌, List};
 ghost use Rattle.std.specs.List.{flat_map};
 ghost use Rattle.roster_csv.specs.PieceLaws.{piece_letters};

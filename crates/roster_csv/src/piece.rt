@@ -1,3 +1,5 @@
+//! The stretches of a word.
+
 ghost use Rattle.std.specs.Prelude.{◌≡◌, ◌≤◌, ◌++◌, IfOk, OnOk, length};
 ghost use Rattle.roster_csv.specs.Pieces.{ended, extended, grown, last_piece, pieces_of, started};
 

@@ -1,3 +1,5 @@
+//! The mark of a text that is not all ASCII.
+
 ghost use Rattle.std.specs.Prelude.{◌≡◌, IfOk, nat_lt};
 ghost use Rattle.std.specs.List.{list_any};
 ghost use Rattle.roster_csv.specs.Sheets.{is_beyond, marked};

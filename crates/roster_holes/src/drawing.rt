@@ -1,3 +1,5 @@
+//! Numbers that look like chance.
+
 /// What the draws of a turn begin with, beside its number.
 const FIRST: u64 = 88_172_645_463_325_252;
 

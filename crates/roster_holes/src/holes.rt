@@ -1,3 +1,5 @@
+//! Holes one after another, and their budget.
+
 use crate::ranking::Ranking;
 use crate::sizes::HoleSize;
 use hole_dives::{Dive, HoleEnd};

@@ -1,3 +1,5 @@
+//! Which trees go.
+
 use crate::drawing::Draws;
 use hole_passes::{HoleRoster, HoleTree, short, weight, whole};
 use roster_model::{Cell, Instance, Memory};

@@ -1,3 +1,5 @@
+//! Turns without holes.
+
 /// After so many nodes without gain holes rest.
 const IDLE_NODES: u32 = 3;
 

@@ -1,3 +1,5 @@
+//! The public calls.
+
 ghost use Rattle.std.specs.Prelude.{IfOk, IfSome};
 ghost use Rattle.roster_holes.specs.Found.{AreSoundShifts};
 

@@ -1,3 +1,5 @@
+//! How many trees go.
+
 use crate::drawing::Draws;
 
 /// What is drawn is added to a size, in eighths of a tree.

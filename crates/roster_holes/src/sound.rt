@@ -1,3 +1,5 @@
+//! Shifts are tested.
+
 ghost use Rattle.std.specs.Prelude.{◌≡◌, ◌≤◌, ◌↔◌, IsTrue, IfOk, IfSome, length};
 ghost use Rattle.roster_model.specs.Folds.{Each};
 ghost use Rattle.certificates.specs.Sound.{IsWordByte, IsGroupNumber, IsSoundShift};

@@ -1,3 +1,5 @@
+//! What holes are opened for.
+
 use roster_model::Shift;
 
 /// What holes are opened for.

@@ -1,3 +1,5 @@
+//! Trees of words.
+
 use hole_passes::{HoleGraph, HoleRoster, HoleTree, NEVER, Passer, Way};
 use roster_model::{Memory, Shift};
 use std::alloc::Global;

@@ -1,3 +1,5 @@
+//! What cuts on an arc pay.
+
 ghost use Rattle.std.specs.Prelude.{
   ℕ,
   ◌≡◌,

@@ -1,3 +1,5 @@
+//! The greatest cost of a roster, and the rounding loss.
+
 ghost use Rattle.std.specs.Prelude.{◌≡◌, ◌≤◌, ◌*◌, ◌+◌, max, length, All};
 ghost use Rattle.roster_model.specs.Folds.{sum_n};
 ghost use Rattle.roster_model.specs.Room.{most_uses};

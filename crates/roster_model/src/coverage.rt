@@ -1,3 +1,5 @@
+//! How many work at a cell, and its penalty.
+
 ghost use Rattle.std.specs.Prelude.{◌≡◌, ◌≤◌, ◌<◌, ◌-◌, length, map, count_by};
 ghost use Rattle.roster_model.specs.Coverage.{has_at, covered, penalty};
 ghost use Rattle.roster_model.specs.Duties.{duty};

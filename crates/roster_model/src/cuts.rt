@@ -1,3 +1,5 @@
+//! Base cuts counted, and the arc of a group's rule.
+
 ghost use Rattle.std.specs.Prelude.{◌≡◌, ◌≤◌, length};
 ghost use Rattle.roster_model.specs.Cuts.{group_arc, group_cut_count, base_cuts};
 ghost use Rattle.roster_model.specs.Folds.{sum_n};

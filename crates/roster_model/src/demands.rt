@@ -1,3 +1,5 @@
+//! Whether cells are those of demands.
+
 ghost use Rattle.std.specs.Prelude.{
   ℕ,
   ◌≡◌,

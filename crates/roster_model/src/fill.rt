@@ -1,3 +1,5 @@
+//! Prices of rules and letters.
+
 ghost use Rattle.std.specs.Prelude.{
   ℕ,
   ◌≡◌,

@@ -1,3 +1,5 @@
+//! Whether an instance is that of groups.
+
 ghost use Rattle.std.specs.Prelude.{
   ℕ,
   ◌≡◌,

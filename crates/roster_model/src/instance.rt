@@ -1,3 +1,5 @@
+//! The types of instances.
+
 use crate::grammar::{ArcKey, Grammar};
 use crate::list::List;
 

@@ -6,6 +6,10 @@
 //! The formulation is the grammar-based one of Côté, Gendron and Rousseau, "Grammar-Based Integer
 //! Programming Models for Multiactivity Shift Scheduling", Management Science 57 (2011); the graph
 //! of all parses that the arcs belong to is that of Quimper and Walsh.
+//!
+//! How an arc's price is found: each arc has one of 16,384 marks, which it may share with others; where its
+//! mark is not set, no cut is on the arc, and the price is 0 at once. Else the arc is searched among the arcs
+//! with cuts, which stand in their order, each once. That this is fast is measured and not proved.
 #![tactic(auto)]
 
 pub mod arc_laws;

@@ -1,3 +1,5 @@
+//! Which words may be names and codes.
+
 ghost use Rattle.std.specs.Prelude.{◌≡◌};
 ghost use Rattle.std.specs.List.{list_all};
 ghost use Rattle.roster_model.specs.Names.{

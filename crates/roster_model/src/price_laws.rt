@@ -1,3 +1,5 @@
+//! The law on prices that agree.
+
 ghost use Rattle.std.specs.Prelude.{ℕ, ◌≡◌};
 ghost use Rattle.roster_model.specs.Agreement.{Agree};
 ghost use Rattle.roster_model.specs.Sound.{IsSound};

@@ -1,3 +1,5 @@
+//! The room for prices.
+
 ghost use Rattle.std.specs.Prelude.{◌≡◌, ◌≤◌, ◌*◌, ◌^◌, All, IfOk, length, vec_capacity};
 ghost use Rattle.roster_model.specs.ArcEntries.{AreSorted, AreMarked, IsEntryWithin};
 ghost use Rattle.roster_model.specs.Sums.{Within};

@@ -1,3 +1,5 @@
+//! The trait of prices.
+
 ghost use Rattle.std.specs.Prelude.{◌≡◌, ◌^◌, IfSome};
 ghost use Rattle.roster_model.specs.RoomPrices.{listed_price};
 ghost use Rattle.roster_model.specs.Sums.{PriceView, Within, AllWithin};

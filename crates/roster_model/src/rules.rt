@@ -1,3 +1,5 @@
+//! The rule of a number.
+
 ghost use Rattle.std.specs.Prelude.{◌≡◌, ◌≤◌, Some, length};
 ghost use Rattle.roster_model.specs.Grammar.{rule_at};
 

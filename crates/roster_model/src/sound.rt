@@ -1,3 +1,5 @@
+//! Whether a grammar is sound, and plain.
+
 ghost use Rattle.std.specs.Prelude.{
   ℕ,
   ◌≡◌,

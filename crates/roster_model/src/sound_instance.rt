@@ -1,3 +1,5 @@
+//! Whether an instance is sound.
+
 ghost use Rattle.std.specs.Prelude.{◌↔◌, IsTrue};
 ghost use Rattle.roster_model.specs.Sound.{IsSound};
 ghost use Rattle.roster_model.specs.SoundInstance.{HasGroups, IsSoundInstance};

@@ -1,3 +1,5 @@
+//! Ranks that one-symbol rules raise, or a cycle of them.
+
 ghost use Rattle.std.specs.Prelude.{
   ℕ,
   ◌≡◌,

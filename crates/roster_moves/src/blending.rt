@@ -1,3 +1,5 @@
+//! Savings with the node's prices and noise.
+
 ghost use Rattle.std.specs.Prelude.{◌≡◌, ◌^◌, All, length};
 ghost use Rattle.roster_model.specs.Sums.{Within};
 

@@ -1,3 +1,5 @@
+//! Between two pools.
+
 ghost use Rattle.std.specs.Prelude.{◌<◌, All, IfOk, OnOk, length};
 ghost use Rattle.tree_pool.specs.Pools.{IsPool};
 ghost use Rattle.master_rows.specs.search_day.Days.{IsDay};

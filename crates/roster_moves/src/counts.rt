@@ -1,3 +1,5 @@
+//! How many work at each cell.
+
 ghost use Rattle.std.specs.Prelude.{◌≡◌, length};
 
 use roster_model::Cell;

@@ -1,3 +1,5 @@
+//! The moves.
+
 ghost use Rattle.std.specs.Prelude.{◌<◌, OnOk, length};
 ghost use Rattle.roster_moves.specs.Drafts.{IsDraft};
 ghost use Rattle.roster_moves.specs.Tools.{AreTools, StayTools};

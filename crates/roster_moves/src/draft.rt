@@ -1,3 +1,5 @@
+//! A roster that is being completed.
+
 ghost use Rattle.std.specs.Prelude.{◌<◌, IfOk, OnOk, length};
 ghost use Rattle.roster_model.specs.SoundInstance.{IsSoundInstance};
 ghost use Rattle.master_rows.specs.search_day.Days.{IsDay};

@@ -1,3 +1,5 @@
+//! Numbers that look like chance.
+
 ghost use Rattle.std.specs.Prelude.{◌<◌};
 
 /// What the draws of a turn begin with, beside its number.

@@ -1,3 +1,5 @@
+//! A tree for a cheapest one of its team.
+
 ghost use Rattle.std.specs.Prelude.{◌≡◌, ◌<◌, OnOk, length};
 ghost use Rattle.roster_moves.specs.Drafts.{IsDraft};
 ghost use Rattle.roster_moves.specs.Tools.{AreTools, StayTools};

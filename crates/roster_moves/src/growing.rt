@@ -1,3 +1,5 @@
+//! One more tree.
+
 ghost use Rattle.std.specs.Prelude.{OnOk, length};
 ghost use Rattle.tree_pool.specs.Pools.{IsPool};
 ghost use Rattle.master_rows.specs.search_day.Rooms.{Grows};

@@ -1,3 +1,5 @@
+//! What the caller gives for the moves.
+
 use roster_model::Prices;
 
 /// What steers the moves of a roster.

@@ -1,3 +1,5 @@
+//! Which trees go.
+
 ghost use Rattle.std.specs.Prelude.{◌<◌, All, length};
 
 use crate::blending::PARTS;

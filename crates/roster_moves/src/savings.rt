@@ -1,3 +1,5 @@
+//! The prices of counts.
+
 ghost use Rattle.std.specs.Prelude.{◌≡◌, ◌^◌, All, length};
 ghost use Rattle.roster_model.specs.Sums.{Within};
 

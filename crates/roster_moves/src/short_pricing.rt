@@ -1,3 +1,5 @@
+//! What prices trees for moves.
+
 ghost use Rattle.std.specs.Prelude.{IfOk};
 ghost use Rattle.master_rows.specs.search_day.Days.{IsDay};
 ghost use Rattle.roster_moves.specs.ShortPricings.{AreShortPricing};

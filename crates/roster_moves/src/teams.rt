@@ -1,3 +1,5 @@
+//! Teams of trees.
+
 ghost use Rattle.std.specs.Prelude.{◌<◌, All, IfSome, length};
 ghost use Rattle.roster_model.specs.Folds.{In};
 ghost use Rattle.roster_model.specs.SoundInstance.{IsSoundInstance};

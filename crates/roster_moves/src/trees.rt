@@ -1,3 +1,5 @@
+//! Cheapest trees of teams.
+
 ghost use Rattle.std.specs.Prelude.{◌≡◌, ◌≢◌, ◌<◌, [], IsTrue, IfOk, IfSome, length};
 ghost use Rattle.roster_model.specs.Folds.{In};
 ghost use Rattle.roster_model.specs.Room.{most_uses};

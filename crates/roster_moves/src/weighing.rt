@@ -1,3 +1,5 @@
+//! What a draft weighs.
+
 ghost use Rattle.std.specs.Prelude.{◌<◌, All, length};
 
 use crate::draft::Draft;

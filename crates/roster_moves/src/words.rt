@@ -1,3 +1,5 @@
+//! The cheapest trees of words, added to the pool.
+
 ghost use Rattle.std.specs.Prelude.{◌≡◌, ◌≢◌, ◌<◌, [], All, IfOk, IsTrue, List as Many, OnOk, length};
 ghost use Rattle.roster_model.specs.Room.{most_uses};
 ghost use Rattle.cheapest_tree.specs.Pricers.{IsMadeFor};

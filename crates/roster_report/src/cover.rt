@@ -1,3 +1,5 @@
+//! How a cell is covered.
+
 ghost use Rattle.std.specs.Prelude.{◌≡◌, ◌≤◌, ◌++◌, All, length, map, OnOk};
 ghost use Rattle.certificates.specs.RosterCauses.{duties};
 ghost use Rattle.roster_model.specs.Limits.{IsDayCell};

@@ -1,3 +1,5 @@
+//! The lines of covers.
+
 ghost use Rattle.std.specs.Prelude.{◌≡◌, ◌/◌, ◌++◌, [], ◌∷◌, length, OnOk};
 ghost use Rattle.roster_model.specs.SoundInstance.{IsSoundInstance};
 ghost use Rattle.text_lines.specs.Written.{written};

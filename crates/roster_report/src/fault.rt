@@ -1,3 +1,5 @@
+//! Why a text is no report.
+
 use roster_model::Memory;
 use thiserror::Error;
 

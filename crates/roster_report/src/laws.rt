@@ -1,3 +1,5 @@
+//! The laws.
+
 ghost use Rattle.std.specs.Prelude.{◌≡◌};
 ghost use Rattle.roster_model.specs.declared.instance.Instance.{Instance};
 ghost use Rattle.roster_model.specs.SoundInstance.{IsSoundInstance};

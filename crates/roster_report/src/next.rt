@@ -1,3 +1,5 @@
+//! The next line, read as a form.
+
 ghost use Rattle.std.specs.Prelude.{◌≡◌, ◌≤◌, Ok, Err, length, IfOk, MatchResult};
 ghost use Rattle.roster_report.specs.declared.report.Report.{Report as Said};
 ghost use Rattle.roster_report.specs.LineWords.{number_said, header_said, done_said, amount_said, shift_said, part_said};

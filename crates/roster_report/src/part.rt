@@ -1,3 +1,5 @@
+//! One of the numbers of a cover.
+
 ghost use Rattle.std.specs.Prelude.{◌≡◌, ◌++◌, OnOk};
 ghost use Rattle.text_lines.specs.Written.{tail};
 ghost use Rattle.roster_report.specs.ReportText.{part_name, part_of, parts_of};

@@ -1,3 +1,5 @@
+//! A report, read.
+
 ghost use Rattle.std.specs.Prelude.{◌≡◌, ◌<◌, ◌^◌, ◌/◌, [], ◌∷◌, ◌++◌, length, IfOk, IfErr, OnOk, OnSome, MatchOption, MatchResult};
 ghost use Rattle.roster_model.specs.SoundInstance.{IsSoundInstance};
 ghost use Rattle.text_lines.specs.Lines.{text_items};

@@ -1,3 +1,5 @@
+//! The report of a certificate.
+
 ghost use Rattle.std.specs.Prelude.{◌≡◌, ◌+◌, [], None, IfOk, IfSome, OnOk};
 ghost use Rattle.certificates.specs.certificate_laws.Accepted.{IsStated};
 ghost use Rattle.certificates.specs.Sound.{IsSoundCert};

@@ -1,3 +1,5 @@
+//! What a line says.
+
 ghost use Rattle.std.specs.Prelude.{◌≡◌, ◌==◌, ◌<◌, ◌≤◌, Some, None, is_some, length, position, IfSome, MatchOption};
 ghost use Rattle.std.specs.List.{list_all};
 ghost use Rattle.proof_pieces.specs.Fields.{has_name};

@@ -1,3 +1,5 @@
+//! Copies of shifts, and their prices.
+
 ghost use Rattle.std.specs.Prelude.{◌≡◌, ◌≤◌, ◌^◌, ◌++◌, ◌∷◌, [], All, length, OnOk};
 ghost use Rattle.certificates.specs.RosterCauses.{stated_prices};
 ghost use Rattle.roster_model.specs.Folds.{sum_n};

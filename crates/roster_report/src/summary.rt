@@ -1,3 +1,5 @@
+//! The summary of a made day.
+
 ghost use Rattle.std.specs.Prelude.{◌≡◌, ◌++◌, IfOk, OnOk};
 ghost use Rattle.text_lines.specs.Written.{written};
 ghost use Rattle.roster_report.specs.SummaryText.{day_lines, search_lines, summary_text};

@@ -1,3 +1,5 @@
+//! A report, written.
+
 ghost use Rattle.std.specs.Prelude.{◌≡◌, ◌≤◌, ◌++◌, [], ◌∷◌, codes, length, IfOk, OnOk};
 ghost use Rattle.roster_model.specs.SoundInstance.{IsSoundInstance};
 ghost use Rattle.text_lines.specs.Written.{written};

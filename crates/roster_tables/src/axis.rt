@@ -1,3 +1,5 @@
+//! The times on the axes.
+
 ghost use Rattle.std.specs.Prelude.{◌≡◌, ◌≤◌, ◌+◌, ◌*◌, ◌^◌, map, IfOk};
 ghost use Rattle.page_parts.specs.Elements.{places};
 ghost use Rattle.roster_tables.specs.AxisTimes.{

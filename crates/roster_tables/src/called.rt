@@ -1,3 +1,5 @@
+//! What codes and groups are called.
+
 ghost use Rattle.std.specs.Prelude.{◌≡◌, ◌++◌, [], ◌∷◌, IfOk};
 ghost use Rattle.roster_tables.specs.Called.{called, code_called, code_text, group_called, row_called};
 

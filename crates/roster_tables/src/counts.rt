@@ -1,3 +1,5 @@
+//! How many begin and end at each time.
+
 ghost use Rattle.std.specs.Prelude.{◌≡◌, ◌≤◌, ◌+◌, ◌++◌, [], ◌∷◌, All, IfOk, OnOk, count_by, length, nat_eq};
 ghost use Rattle.shift_figures.specs.Stretches.{stretch_of};
 ghost use Rattle.shift_figures.specs.declared.stretch.Stretch.{Stretch as Span};

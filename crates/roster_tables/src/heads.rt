@@ -1,3 +1,5 @@
+//! The lines of employees.
+
 ghost use Rattle.std.specs.Prelude.{◌≡◌, ◌≤◌, ◌+◌, ◌++◌, [], ◌∷◌, IfOk, length};
 ghost use Rattle.roster_tables.specs.HeadLines.{all_heads, group_line, heads_of};
 

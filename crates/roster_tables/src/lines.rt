@@ -1,3 +1,5 @@
+//! The lines of shifts and stretches.
+
 ghost use Rattle.std.specs.Prelude.{◌≡◌, ◌≤◌, ◌++◌, [], ◌∷◌, All, IfOk, OnOk, count_by, length, true};
 ghost use Rattle.std.specs.List.{flat_map};
 ghost use Rattle.shift_figures.specs.Stretches.{is_paid, is_work};

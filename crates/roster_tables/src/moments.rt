@@ -1,3 +1,5 @@
+//! When periods begin and end, and how long they are.
+
 ghost use Rattle.std.specs.Prelude.{◌≡◌, ◌-◌, ◌++◌, codes as text, IfOk, OnOk};
 ghost use Rattle.std.specs.Fmt.{decimal};
 ghost use Rattle.roster_tables.specs.Moments.{

@@ -1,3 +1,5 @@
+//! The lines of shortages and of surplus.
+
 ghost use Rattle.std.specs.Prelude.{◌≡◌, ◌++◌, [], ◌∷◌, IfOk, OnOk, map};
 ghost use Rattle.std.specs.List.{flat_map};
 ghost use Rattle.page_text.specs.Costs.{AreDayColumns};

@@ -1,3 +1,5 @@
+//! All of them.
+
 ghost use Rattle.std.specs.Prelude.{◌≡◌, ◌≤◌, All, IfOk, length};
 ghost use Rattle.page_text.specs.Costs.{AreDayColumns};
 ghost use Rattle.roster_tables.specs.TablesOf.{is_grouped, is_named, tables_of};

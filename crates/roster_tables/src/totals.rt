@@ -1,3 +1,5 @@
+//! The lines of codes.
+
 ghost use Rattle.std.specs.Prelude.{◌≡◌, ◌≤◌, ◌+◌, ◌^◌, ◌++◌, [], ◌∷◌, All, IfOk, OnOk, length};
 ghost use Rattle.roster_tables.specs.TotalLines.{
   all_covered,

@@ -1,3 +1,5 @@
+//! The answer's status and text.
+
 ghost use Rattle.std.specs.Prelude.{◌≡◌, ◌≤◌, ◌++◌, IfOk, length};
 ghost use Rattle.text_lines.specs.Written.{written};
 ghost use Rattle.roster_model.specs.SoundInstance.{IsSoundInstance};

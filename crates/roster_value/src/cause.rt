@@ -1,3 +1,5 @@
+//! The causes.
+
 /// Why a stated roster is not allowed. Shifts are numbered from 1 in their order, and groups from 1, with 0 on a
 /// day without groups; a code is given by its byte.
 #[derive(Clone, Copy, Debug, PartialEq, Eq, Drop)]

@@ -1,3 +1,5 @@
+//! Their lines.
+
 ghost use Rattle.std.specs.Prelude.{◌≡◌, ◌++◌, OnOk};
 ghost use Rattle.roster_value.specs.CauseText.{
   word_at,

@@ -1,3 +1,5 @@
+//! All causes, by the prices that were found.
+
 ghost use Rattle.std.specs.Prelude.{◌≡◌, ◌≤◌, ◌++◌, All, IfOk, OnOk, count_by, length, nat_eq};
 ghost use Rattle.roster_model.specs.Limits.{IsDayCell};
 ghost use Rattle.roster_model.specs.SoundInstance.{IsSoundInstance};

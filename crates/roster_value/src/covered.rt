@@ -1,3 +1,5 @@
+//! How many words are at a cell.
+
 ghost use Rattle.std.specs.Prelude.{◌≡◌, ◌≤◌, ◌++◌, IfOk, OnOk, length};
 ghost use Rattle.text_lines.specs.Written.{written};
 ghost use Rattle.roster_model.specs.SoundInstance.{IsSoundInstance};

@@ -1,3 +1,5 @@
+//! The price of each word.
+
 ghost use Rattle.std.specs.Prelude.{◌≡◌, IfOk, IfSome, IsTrue, Some, slice_get};
 ghost use Rattle.roster_model.specs.declared.grammar.Grammar.{Grammar as Rules};
 ghost use Rattle.roster_model.specs.declared.instance.Shift.{Shift as ShiftValue};

@@ -1,3 +1,5 @@
+//! That there is one answer, and that a roster's order means nothing.
+
 ghost use Rattle.std.specs.Prelude.{◌≡◌, ℕ, List};
 ghost use Rattle.roster_model.specs.declared.instance.Instance.{Instance};
 ghost use Rattle.roster_model.specs.declared.instance.Shift.{Shift};

@@ -7,6 +7,8 @@
 //!
 //! `stated_rosters` reads such a roster's text, `remaining_day` has the day that remains beside kept shifts, and
 //! `group_rules` the rules of a day with groups, by which that day is written.
+//!
+//! The table is filled once for each word of a team, however often and wherever it stands.
 #![tactic(auto)]
 
 mod answer;

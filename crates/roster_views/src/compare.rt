@@ -1,3 +1,5 @@
+//! What differs from an old roster.
+
 ghost use Rattle.std.specs.Prelude.{◌≡◌, ◌≤◌, ◌+◌, IfOk, IfSome, length, map, true};
 ghost use Rattle.std.specs.Option.{option_copied};
 ghost use Rattle.page_parts.specs.Elements.{places};

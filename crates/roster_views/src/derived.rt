@@ -1,3 +1,5 @@
+//! The derivation of each row.
+
 ghost use Rattle.std.specs.Prelude.{◌≡◌, All, length, IfOk};
 ghost use Rattle.roster_value.specs.group_rules.Plain.{plain_from};
 ghost use Rattle.roster_views.specs.Rows.{AreDerived, IsDerived, IsPricedRow, start_of};

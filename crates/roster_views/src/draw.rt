@@ -1,3 +1,5 @@
+//! The content of a page, and what shows a roster.
+
 ghost use Rattle.std.specs.Prelude.{◌≡◌, ◌≤◌, IfOk, IfSome, length};
 ghost use Rattle.std.specs.Option.{option_copied};
 ghost use Rattle.certificates.specs.certificate_laws.Accepted.{IsStated};

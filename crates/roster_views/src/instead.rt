@@ -1,3 +1,5 @@
+//! The line that is said in place of what shows a roster.
+
 ghost use Rattle.std.specs.Prelude.{◌≡◌, None as Nothing, Some as Just, IfOk};
 ghost use Rattle.page_labels.specs.FaultLine as label;
 ghost use Rattle.roster_views.specs.Shown.{is_beyond, lacks_shift, line_instead, line_of, name_fault};

@@ -1,3 +1,5 @@
+//! What the first word asks for, and as what a roster is shown.
+
 ghost use Rattle.std.specs.Prelude.{◌≡◌};
 ghost use Rattle.roster_views.specs.Kinds.{kind_for};
 ghost use Rattle.roster_views.specs.Kinds.{first_word};

@@ -1,3 +1,5 @@
+//! A roster to show.
+
 ghost use Rattle.std.specs.Prelude.{◌≡◌};
 ghost use Rattle.roster_views.specs.Shown.{certified, stated};
 

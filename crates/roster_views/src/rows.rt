@@ -1,3 +1,5 @@
+//! The rows of a roster.
+
 ghost use Rattle.std.specs.Prelude.{
   ◌≡◌,
   ◌≤◌,

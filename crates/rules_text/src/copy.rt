@@ -1,3 +1,5 @@
+//! A list of its own.
+
 ghost use Rattle.std.specs.Prelude.{◌≡◌, IfOk};
 
 use roster_model::{List, Memory};

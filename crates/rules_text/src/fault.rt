@@ -1,3 +1,5 @@
+//! Why a rules text is refused.
+
 use roster_model::Memory;
 use std::fmt;
 use thiserror::Error;

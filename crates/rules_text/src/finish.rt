@@ -1,3 +1,5 @@
+//! The grammar of all lines, and its cycles.
+
 ghost use Rattle.std.specs.Prelude.{◌≡◌, ◌+◌, ◌≤◌, ◌^◌, ◌<◌, Ok, length, IfOk};
 ghost use Rattle.roster_model.specs.Sound.{has_rule, IsSound, IsPlain};
 ghost use Rattle.rules_text.specs.Drafts.{IsParsed};

@@ -1,3 +1,5 @@
+//! The laws.
+
 ghost use Rattle.std.specs.Prelude.{◌≡◌, ◌⊎◌, ℕ, List, Result, Ok, Err};
 ghost use Rattle.roster_model.specs.declared.grammar.Grammar.{Grammar};
 ghost use Rattle.roster_model.specs.Sound.{IsSound, IsPlain};

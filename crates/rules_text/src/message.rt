@@ -1,3 +1,5 @@
+//! The line of a fault.
+
 ghost use Rattle.std.specs.Prelude.{◌≡◌, ◌++◌, [], ◌∷◌, IfOk, OnOk};
 ghost use Rattle.rules_text.specs.FaultLine.{line_of, limit_text, most_text, fault_text, fault_line};
 

@@ -1,3 +1,5 @@
+//! The names so far.
+
 ghost use Rattle.std.specs.Prelude.{◌≡◌, ◌+◌, ◌<◌, [], ◌∷◌, ◌++◌, length, IfSome, IfOk, true, false, MatchOption, OnOk, OnErr};
 ghost use Rattle.roster_model.specs.Names.{is_window_word};
 ghost use Rattle.rules_text.specs.Names.{texts, has_name, place_of, name_at};

@@ -1,3 +1,5 @@
+//! A sound grammar, written.
+
 ghost use Rattle.std.specs.Prelude.{◌≡◌, ◌<◌, ◌++◌, [], ◌∷◌, ◌==◌, ◌&&◌, All, codes as text, length, map, IfOk, OnOk, slice_index_or};
 ghost use Rattle.std.specs.Fmt.{decimal};
 ghost use Rattle.text_lines.specs.Written.{written, tail};

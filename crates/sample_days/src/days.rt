@@ -1,3 +1,5 @@
+//! The days.
+
 ghost use Rattle.std.specs.Prelude.{IfOk};
 ghost use Rattle.roster_model.specs.SoundInstance.{IsSoundInstance};
 

@@ -1,3 +1,5 @@
+//! The rules of the grammars.
+
 use crate::parts::{ANY, REST, RuleParts, WORK};
 use roster_model::{Cell, Sym, Window};
 

@@ -1,3 +1,5 @@
+//! A day and a grammar of their parts.
+
 ghost use Rattle.std.specs.Prelude.{◌≡◌, IfOk, map};
 ghost use Rattle.sample_days.specs.Built.{rule_of, two_codes, grammar_of, day_of};
 

@@ -1,3 +1,5 @@
+//! The laws on a block with rest around it.
+
 ghost use Rattle.sample_days.specs.RestAndWork.{IsTreeOfBlock, SumOfBlock};
 
 /// The word `.aa.`: its tree, that tree's cost, rule uses and arcs.

@@ -1,3 +1,5 @@
+//! The laws on a word with two trees.
+
 ghost use Rattle.sample_days.specs.TwoReadings.{PriceOfTwoReadings, LeastSumOfTwoReadings};
 
 /// The word `aa` has two trees; its price is the cost of the cheaper one.

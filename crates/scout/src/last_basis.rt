@@ -1,3 +1,5 @@
+//! A basis that is handed on.
+
 use float_simplex::Key;
 use roster_model::{List, Memory};
 use std::alloc::Global;

@@ -1,3 +1,5 @@
+//! The program, and its calls.
+
 ghost use Rattle.std.specs.Prelude.{◌≡◌, ◌≤◌, ◌+◌, ◌<◌, ◌^◌, ◌*ℤ◌, unsigned_abs, length, IfOk, IfSome, OnErr};
 ghost use Rattle.scout.specs.Sizes.{row_count, listed_count, SameSizes, IsKey};
 

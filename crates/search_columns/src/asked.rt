@@ -1,3 +1,5 @@
+//! The prices that a hunt asks at.
+
 ghost use Rattle.std.specs.Prelude.{◌≡◌, length, IfOk};
 
 use master_rows::reduced_at;

@@ -1,3 +1,5 @@
+//! How it lists trees at these prices.
+
 ghost use Rattle.std.specs.Prelude.{◌≡◌, length};
 ghost use Rattle.master_rows.specs.node_task.Tasks.{IsTask, row_count};
 ghost use Rattle.node_columns.specs.Tools.{AreTools, StayTools};

@@ -1,3 +1,5 @@
+//! The last bases of nodes.
+
 use roster_model::{Cut, List, Memory};
 use scout::{Key, LastBasis, Limits};
 use std::alloc::Global;

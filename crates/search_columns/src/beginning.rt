@@ -1,3 +1,5 @@
+//! How a hunt begins.
+
 ghost use Rattle.std.specs.Prelude.{◌≡◌, length, IfOk};
 ghost use Rattle.tree_pool.specs.Pools.{IsPool};
 ghost use Rattle.master_rows.specs.node_task.Tasks.{IsTask, row_count};

@@ -1,3 +1,5 @@
+//! The prices that rows may have near to the best ones.
+
 use crate::asked::KAPPA;
 use crate::scouting::ARTIFICIAL;
 use node_columns::{Held, Kind};

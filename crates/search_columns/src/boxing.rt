@@ -1,3 +1,5 @@
+//! Rounds in boxes.
+
 ghost use Rattle.search_columns.specs.Hunts.{IsHunting, StayHunting};
 
 use crate::asked::{Asked, VALUE_UNITS};

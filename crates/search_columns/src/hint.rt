@@ -1,3 +1,5 @@
+//! What a hunt hands on.
+
 ghost use Rattle.std.specs.Prelude.{ℕ, ◌<◌, All, List as Items, length, IfOk};
 ghost use Rattle.roster_model.specs.declared.instance.Cut.{Cut as PathCut};
 ghost use Rattle.roster_model.specs.declared.instance.Instance.{Instance as Model};

@@ -1,3 +1,5 @@
+//! What a hunt works at, and when it ends.
+
 use crate::asked::Asked;
 use node_columns::ColumnDesk;
 use scout::Scout;

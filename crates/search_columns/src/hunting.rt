@@ -1,3 +1,5 @@
+//! Its rounds.
+
 ghost use Rattle.std.specs.Prelude.{◌≡◌, length};
 ghost use Rattle.search_columns.specs.Hunts.{IsHunting, StayHunting};
 ghost use Rattle.search_columns.specs.Tools.{MayHunt, StayTools};

@@ -1,3 +1,5 @@
+//! Runs of a scout, and what becomes of a hunt that is lost.
+
 ghost use Rattle.search_columns.specs.Hunts.{IsHunting, StayHunting};
 
 use crate::boxing::hunt_in_boxes;

@@ -1,3 +1,5 @@
+//! A scout over listed columns.
+
 ghost use Rattle.std.specs.Prelude.{◌≡◌};
 
 use fraction::Place;

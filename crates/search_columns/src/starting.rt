@@ -1,3 +1,5 @@
+//! What a hunt begins with: trees, and a basis that is kept.
+
 use crate::bases::Basis;
 use crate::steering::Steering;
 use master_rows::{NodeRows, NodeTask};

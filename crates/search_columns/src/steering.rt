@@ -1,3 +1,5 @@
+//! What steers the solution of a node.
+
 use crate::bases::Bases;
 use crate::hunt::Ending;
 

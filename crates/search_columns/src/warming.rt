@@ -1,3 +1,5 @@
+//! What it begins with beside a basis, by the volume algorithm.
+
 ghost use Rattle.tree_pool.specs.Pools.{IsPool};
 ghost use Rattle.master_rows.specs.search_day.Rooms.{Grows};
 ghost use Rattle.master_rows.specs.node_task.Tasks.{IsTask};

@@ -1,3 +1,5 @@
+//! At which codes of need nobody works, and what a shift with one costs at least.
+
 ghost use Rattle.span_table.specs.next_codes.Views.{IsMadeFor as AreMadeFor};
 ghost use Rattle.roster_model.specs.Sound.{IsSound};
 ghost use Rattle.roster_model.specs.SoundInstance.{IsSoundInstance};

@@ -1,3 +1,5 @@
+//! Which head counts and cells alone show that no roster is allowed.
+
 ghost use Rattle.std.specs.Prelude.{◌≡◌, ◌<◌, ◌≤◌, length};
 ghost use Rattle.span_table.specs.next_codes.Views.{IsMadeFor as AreMadeFor};
 ghost use Rattle.roster_model.specs.Sound.{IsSound};

@@ -1,3 +1,5 @@
+//! How long a search may take.
+
 ghost use Rattle.std.specs.Prelude.{◌≡◌, ◌≤◌};
 ghost use Rattle.search_commands.specs.Limits.{IsLimit, seconds_of, turns_of};
 

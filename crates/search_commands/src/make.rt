@@ -1,3 +1,5 @@
+//! The day that is made from a number.
+
 ghost use Rattle.std.specs.Prelude.{ℕ, ◌≡◌, ◌≤◌, [], IfOk};
 ghost use Rattle.roster_model.specs.SoundInstance.{IsSoundInstance};
 ghost use Rattle.made_days.specs.Made.{made_instance};

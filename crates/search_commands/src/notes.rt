@@ -1,3 +1,5 @@
+//! What is noted of a search that ended.
+
 ghost use Rattle.std.specs.Prelude.{◌≡◌};
 ghost use Rattle.roster_model.specs.SoundInstance.{IsSoundInstance};
 

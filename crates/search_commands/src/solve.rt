@@ -1,3 +1,5 @@
+//! A day, solved.
+
 ghost use Rattle.std.specs.Prelude.{ℕ, ◌≡◌, ◌≢◌, ◌≤◌, [], ◌∷◌, Bool, IfErr, IfOk, IfSome};
 ghost use Rattle.std.specs.Option.{option_copied};
 ghost use Rattle.roster_model.specs.Sound.{IsPlain, IsSound};

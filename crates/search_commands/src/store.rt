@@ -1,3 +1,5 @@
+//! A text stored, and then an answer said.
+
 ghost use Rattle.std.specs.Prelude.{◌≡◌, ◌≢◌, ◌≤◌, [], IfOk, IfSome, IsSomeAnd, IsTrue, MatchResult};
 ghost use Rattle.shelf.specs.Shelf.{SaidPart};
 ghost use Rattle.answers.specs.Reader.{MayStore};

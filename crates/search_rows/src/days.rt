@@ -1,3 +1,5 @@
+//! Whether a master can be made of a sample day, and the graph of one.
+
 ghost use Rattle.std.specs.Prelude.{◌≡◌, ◌≤◌, [], All, IfOk, min};
 ghost use Rattle.std.specs.Bool.{OnTrue};
 ghost use Rattle.roster_model.specs.Sound.{IsSound};

@@ -1,3 +1,5 @@
+//! Which end a master has that goes one way to prices first.
+
 ghost use Rattle.std.specs.Prelude.{[], true, IfOk};
 ghost use Rattle.roster_model.specs.SoundInstance.{IsSoundInstance};
 ghost use Rattle.parse_graph.specs.Graphs.{IsGraph};

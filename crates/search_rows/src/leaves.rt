@@ -1,3 +1,5 @@
+//! The order in which open leaves come (`open_nodes`).
+
 use open_nodes::{Kept, OpenLeaf, OpenNodes, Plan};
 use roster_model::Memory;
 use std::process::Abort;

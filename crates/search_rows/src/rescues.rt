@@ -1,3 +1,5 @@
+//! Near prices by hunts that are lost, and go on carefully.
+
 ghost use Rattle.roster_model.specs.SoundInstance.{IsSoundInstance};
 ghost use Rattle.parse_graph.specs.Graphs.{IsGraph};
 ghost use Rattle.search_rows.specs.Days.{IsMasterDay, AreLent};

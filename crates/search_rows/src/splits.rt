@@ -1,3 +1,5 @@
+//! The arc to split on that near weights of a half point to.
+
 ghost use Rattle.std.specs.Prelude.{[], IfOk};
 ghost use Rattle.roster_model.specs.SoundInstance.{IsSoundInstance};
 ghost use Rattle.parse_graph.specs.Graphs.{IsGraph};

@@ -1,3 +1,5 @@
+//! The laws.
+
 ghost use Rattle.search_tree.specs.Laws.{CountRises, FewSeats, LeafInHand, LimitFalls, ShortPaths};
 
 /// What is known of the tree holds for a lesser limit.

@@ -1,3 +1,5 @@
+//! The seats, changed by a step.
+
 ghost use Rattle.std.specs.Prelude.{◌≡◌, ◌<◌, ◌++◌, ◌∷◌, [], IfOk, OnOk, length};
 ghost use Rattle.search_tree.specs.Steps.{split_of, half_seat, forked, marked};
 

@@ -1,3 +1,5 @@
+//! The tree, and its calls.
+
 ghost use Rattle.std.specs.Prelude.{ℕ, ◌≡◌, ◌≤◌, ◌<◌, [], ◌∷◌, IfNone, IfOk, OnOk, MatchOption, length, List as Items};
 ghost use Rattle.roster_model.specs.Cuts.{base_cuts};
 ghost use Rattle.certificates.specs.Nodes.{preorder};

@@ -1,3 +1,5 @@
+//! The watch by a clock.
+
 use crate::standing::{Standing, Subject};
 use crate::watch::Watch;
 use crate::work::Work;

@@ -1,3 +1,5 @@
+//! How far a search is, and whose it is.
+
 /// Whose search is watched.
 #[derive(Clone, Copy, Debug, PartialEq, Eq, Drop)]
 pub enum Subject {

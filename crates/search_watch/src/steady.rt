@@ -1,3 +1,5 @@
+//! The watch that lets each search go on.
+
 use crate::standing::{Standing, Subject};
 use crate::watch::Watch;
 use crate::work::Work;

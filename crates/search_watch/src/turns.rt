@@ -1,3 +1,5 @@
+//! The watch that counts turns as seconds.
+
 use crate::standing::{Standing, Subject};
 use crate::watch::Watch;
 use crate::work::Work;

@@ -1,3 +1,5 @@
+//! The trait.
+
 ghost use Rattle.std.specs.Prelude.{◌≡◌, Bool, true, false, None, IsTrue};
 
 use crate::standing::{Standing, Subject};

@@ -1,3 +1,5 @@
+//! What a turn is at.
+
 /// What a search does within a turn.
 #[derive(Clone, Copy, Debug, PartialEq, Eq, Drop)]
 pub enum Work {

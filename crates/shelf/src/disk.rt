@@ -1,3 +1,5 @@
+//! Files, standard output and standard error.
+
 ghost use Rattle.std.specs.Prelude.{◌≡◌, ◌≤◌, ◌+◌, Err, length};
 ghost use Rattle.shelf.specs.Shelf.{Begins, HasCause, count_after, most_faults};
 

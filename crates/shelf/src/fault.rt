@@ -1,3 +1,5 @@
+//! Why a call gave up.
+
 use std::alloc::AllocError;
 
 /// Why a call of a shelf gave up.

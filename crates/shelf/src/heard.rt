@@ -1,3 +1,5 @@
+//! A stream that remembers why its last call was refused.
+
 use std::io;
 use std::io::{ErrorKind, Read, Write};
 

@@ -1,3 +1,5 @@
+//! A new file, made, filled and closed, and the first bytes of an old one.
+
 use crate::heard::Heard;
 use crate::stream::write_bytes;
 use std::fs::{OpenFile, OpenOptions, Permissions};

@@ -1,3 +1,5 @@
+//! Where a text goes that is stored under a name.
+
 use std::io::ErrorKind;
 use std::path::{Path, PathBuf};
 use std::rt::Files;

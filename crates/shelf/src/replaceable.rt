@@ -1,3 +1,5 @@
+//! Which texts may be stored over.
+
 ghost use Rattle.std.specs.Prelude.{◌≡◌};
 ghost use Rattle.shelf.specs.Stores.{is_replaceable};
 

@@ -1,3 +1,5 @@
+//! The trait.
+
 ghost use Rattle.std.specs.Prelude.{◌≡◌, ◌≤◌, ◌+◌, ◌++◌, length, false, Some, OnOk, IfSome, IsSome, IsSomeAnd, IsTrue, Err};
 ghost use Rattle.std.specs.FinMap as fin;
 ghost use Rattle.shelf.specs.Shelf.{Told, HasCause, Fetched, Begins, AgreesElsewhere, SaidPart, most_faults};

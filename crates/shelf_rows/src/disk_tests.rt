@@ -1,3 +1,5 @@
+//! What the disk does with first lines, links, modes, new files and names.
+
 use crate::shelf_tests::STORED_OVER;
 use shelf::{DiskShelf, Shelf, ShelfFault};
 use std::fs;

@@ -1,3 +1,5 @@
+//! What the disk and both shelves in memory answer with ample memory.
+
 use shelf::{DiskShelf, MemoryShelf, QuietShelf, Shelf, ShelfFault, read_bytes, write_bytes};
 use std::alloc::Global;
 use std::io::{ErrorKind, Read, Write};

@@ -1,3 +1,5 @@
+//! What a bound tells of a cost.
+
 ghost use Rattle.std.specs.Prelude.{◌≡◌, ◌≤◌, ◌<◌};
 ghost use Rattle.shift_figures.specs.Bounds.{permille_of, saving_at};
 

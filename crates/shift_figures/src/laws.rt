@@ -1,3 +1,5 @@
+//! The laws.
+
 ghost use Rattle.std.specs.Prelude.{ℕ, ◌≡◌, List, All, Some, true};
 ghost use Rattle.std.specs.List.{flat_map, list_all};
 ghost use Rattle.shift_figures.specs.RunLaws.{lack_periods, run_periods};

@@ -1,3 +1,5 @@
+//! Runs of shortage and of surplus.
+
 ghost use Rattle.std.specs.Prelude.{◌≡◌, ◌≤◌, ◌+◌, ◌^◌, ◌++◌, IfOk, IfSome, OnOk};
 ghost use Rattle.shift_figures.specs.Runs.{AreDayLacks, ended, extended, grown, is_part, joins, last_run, next_open, runs_of, started};
 

@@ -1,3 +1,5 @@
+//! The covered share of a need.
+
 ghost use Rattle.std.specs.Prelude.{◌≡◌, ◌≤◌, ◌^◌};
 ghost use Rattle.shift_figures.specs.Shares.{covered_share};
 

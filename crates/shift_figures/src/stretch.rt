@@ -1,3 +1,5 @@
+//! When work begins and ends, stretches without time off, and what is paid.
+
 ghost use Rattle.std.specs.Prelude.{◌≡◌, ◌≤◌, ◌++◌, IfOk, OnOk, count_by, length};
 ghost use Rattle.std.specs.List.{list_any};
 ghost use Rattle.shift_figures.specs.Stretches.{

@@ -1,3 +1,5 @@
+//! How often a code is had, and how many shifts a group has.
+
 ghost use Rattle.std.specs.Prelude.{◌≡◌, ◌≤◌, ◌+◌, All, count_by, length};
 ghost use Rattle.shift_figures.specs.Totals.{code_total, group_count, is_byte, is_of_group};
 

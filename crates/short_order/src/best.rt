@@ -1,3 +1,5 @@
+//! For each node an arc that makes it.
+
 ghost use Rattle.std.specs.Prelude.{◌+◌, ◌<◌, IfOk, length};
 ghost use Rattle.parse_graph.specs.Graphs.{HasGrammar};
 ghost use Rattle.short_order.specs.Best.{AreBestBefore, AreBest};

@@ -1,3 +1,5 @@
+//! The arcs in an order in which each stands behind those that make what it uses.
+
 use parse_graph::{Graph, Kid};
 use roster_model::{ArcKey, Memory};
 use std::alloc::Global;

@@ -1,3 +1,5 @@
+//! What rules and arcs cost in a pass, in 64 bits.
+
 use crate::chain::{Joint, code_of};
 use parse_graph::Graph;
 use roster_model::{ArcKey, ArcPrice, LetterPrice, Memory};

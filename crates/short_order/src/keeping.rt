@@ -1,3 +1,5 @@
+//! The pass from above, and which arcs are kept.
+
 use crate::chain::{Chain, Joint};
 use crate::costs::{Costs, put};
 use crate::pass::{FAR, sum_at, sum_of};

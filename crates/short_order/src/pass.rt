@@ -1,3 +1,5 @@
+//! The pass from below.
+
 ghost use Rattle.short_order.specs.Best.{AreBest};
 
 use crate::best::choose;

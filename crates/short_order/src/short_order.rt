@@ -1,3 +1,5 @@
+//! The short order, and all its calls.
+
 ghost use Rattle.std.specs.Prelude.{◌≡◌, ◌<◌, IfOk, IfSome, length};
 ghost use Rattle.roster_model.specs.declared.grammar.ArcKey.{ArcKey as Key};
 ghost use Rattle.roster_model.specs.declared.grammar.Grammar.{Grammar as Rules};

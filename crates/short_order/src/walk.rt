@@ -1,3 +1,5 @@
+//! The steps of a tree, by the best arcs.
+
 ghost use Rattle.std.specs.Prelude.{◌≡◌, ◌<◌, ◌++◌, length};
 ghost use Rattle.roster_model.specs.arc_laws.AtNodes.{steps_of};
 ghost use Rattle.short_order.specs.Best.{IsNodeOf};

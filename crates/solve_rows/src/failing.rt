@@ -1,3 +1,5 @@
+//! `FailingMaster`, a master that fails for want of pivots at the calls that it is told.
+
 ghost use Rattle.std.specs.Prelude.{◌≡◌, IsTrue, true};
 ghost use Rattle.node_master.specs.Refusals.{counted};
 ghost use Rattle.solve_rows.specs.Failing.{fails_at, is_none_listed};

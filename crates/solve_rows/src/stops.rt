@@ -1,3 +1,5 @@
+//! Searches that a watch stops at each question in turn.
+
 ghost use Rattle.std.specs.Prelude.{◌≤◌};
 ghost use Rattle.roster_model.specs.SoundInstance.{IsSoundInstance};
 ghost use Rattle.parse_graph.specs.Graphs.{IsGraph};

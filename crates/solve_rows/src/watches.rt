@@ -1,3 +1,5 @@
+//! `NthWatch`, which is over at its n-th question and counts the questions, and a clock that stands still.
+
 use search_watch::{Standing, Subject, Watch, Work};
 use std::cell::Cell;
 use std::fmt::Display;

@@ -1,3 +1,5 @@
+//! Whether a suffix has parts on a span, and which arc comes next.
+
 ghost use Rattle.std.specs.Prelude.{◌≡◌, ◌≤◌, ◌<◌, ◌+◌, ◌-◌, ◌↔◌, IsTrue, Some, length, drop};
 ghost use Rattle.roster_model.specs.Grammar.{rule_at, InDay};
 ghost use Rattle.roster_model.specs.Arcs.{IsArc};

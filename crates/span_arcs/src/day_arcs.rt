@@ -1,3 +1,5 @@
+//! The arcs, and their calls.
+
 ghost use Rattle.std.specs.Prelude.{ℕ, ◌↔◌, ◌≡◌, ◌≤◌, ◌+◌, IsTrue, IfOk, Some, length};
 ghost use Rattle.roster_model.specs.Arcs.{IsArc};
 ghost use Rattle.roster_model.specs.Sound.{IsSound};

@@ -1,3 +1,5 @@
+//! Whether a symbol or a suffix derives on a span.
+
 ghost use Rattle.std.specs.Prelude.{◌≡◌, ◌≤◌, ◌<◌, ◌↔◌, IsTrue, length, drop, [], ◌∷◌};
 ghost use Rattle.roster_model.specs.Grammar.{rule_at, InDay};
 ghost use Rattle.roster_model.specs.Sound.{IsSound, Exists};

@@ -1,3 +1,5 @@
+//! What derives, by the cells of free prices.
+
 ghost use Rattle.std.specs.Prelude.{IfOk};
 ghost use Rattle.roster_model.specs.Sound.{IsSound};
 ghost use Rattle.span_arcs.specs.DayArcs.{IsDerivedOf};

@@ -1,3 +1,5 @@
+//! Free prices.
+
 use roster_model::{ArcKey, ArcPrice, LetterPrice};
 
 /// Prices under which everything is free: there is a least sum exactly where there is a tree.

@@ -1,3 +1,5 @@
+//! The arcs of one suffix on one span, listed or counted together.
+
 ghost use Rattle.std.specs.Prelude.{ℕ, ◌≡◌, ◌≤◌, ◌<◌, ◌+◌, Some, IfOk, IfSome, length, drop};
 ghost use Rattle.roster_model.specs.Grammar.{rule_at, InDay};
 ghost use Rattle.roster_model.specs.Arcs.{IsArc};

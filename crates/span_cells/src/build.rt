@@ -1,3 +1,5 @@
+//! The layout of a grammar.
+
 ghost use Rattle.std.specs.Prelude.{ℕ, ◌≡◌, ◌≤◌, ◌<◌, ◌+◌, ◌-◌, ◌*◌, [], List as Items, Some, length, slice_get, IfOk, OnOk};
 ghost use Rattle.roster_model.specs.Sound.{IsSound};
 ghost use Rattle.span_cells.specs.declared.slot.Slot.{Slot as Use};

@@ -1,3 +1,5 @@
+//! The trait of cells.
+
 ghost use Rattle.std.specs.Prelude.{◌≡◌, ◌<◌, ◌+◌, ℤ, Option, None, length, slice_index_or, slice_set};
 ghost use Rattle.span_cells.specs.Cells.{Held};
 ghost use Rattle.span_cells.specs.Numbers.{number_of};

@@ -1,3 +1,5 @@
+//! The rules of each name.
+
 ghost use Rattle.std.specs.Prelude.{IfOk};
 ghost use Rattle.roster_model.specs.Sound.{IsSound};
 ghost use Rattle.span_cells.specs.Chains.{AreChained};

@@ -1,3 +1,5 @@
+//! All cells, filled.
+
 ghost use Rattle.std.specs.Prelude.{ℕ, ◌≡◌, ◌≤◌, ◌<◌, ◌+◌, ◌*◌, ◌^◌, Some, IfSome, length, slice_get};
 ghost use Rattle.roster_model.specs.Grammar.{InDay};
 ghost use Rattle.roster_model.specs.Sound.{IsSound};

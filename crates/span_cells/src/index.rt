@@ -1,3 +1,5 @@
+//! The spans of a day in a row.
+
 ghost use Rattle.std.specs.Prelude.{◌≡◌, ◌≤◌, ◌<◌, ◌+◌, ◌*◌, ◌/◌};
 ghost use Rattle.roster_model.specs.Grammar.{InDay};
 ghost use Rattle.span_cells.specs.Places.{shorter, place_of};

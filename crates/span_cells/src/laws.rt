@@ -1,3 +1,5 @@
+//! The law on places.
+
 ghost use Rattle.span_cells.specs.Places.{PlacesDiffer};
 
 /// A law: two spans of a day never share a place. With the contract of [`crate::SpanIndex::span`]

@@ -1,3 +1,5 @@
+//! Lengths that spans can have.
+
 ghost use Rattle.std.specs.Prelude.{ℕ, ◌≡◌, ◌≤◌, ◌<◌, ◌+◌, ◌↔◌, Some, IsTrue, IfOk, length, drop, slice_get, slice_index_or, [], ◌∷◌};
 ghost use Rattle.roster_model.specs.declared.grammar.Grammar.{Grammar as Rules};
 ghost use Rattle.roster_model.specs.Grammar.{IsInWindow};

@@ -1,3 +1,5 @@
+//! A sum or none, in sixteen bytes.
+
 ghost use Rattle.std.specs.Prelude.{◌≡◌, ◌^◌, IfSome};
 ghost use Rattle.roster_model.specs.Sums.{Within};
 ghost use Rattle.span_cells.specs.Numbers.{number_of};

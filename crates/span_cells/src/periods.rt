@@ -1,3 +1,5 @@
+//! Sets of periods.
+
 ghost use Rattle.std.specs.Prelude.{ℕ, ◌≤◌, ◌<◌, ◌↔◌, ◌≡◌, ◌⊎◌, ◌%◌, ◌^◌};
 ghost use Rattle.std.specs.Int.{bit_at};
 ghost use Rattle.span_cells.specs.Periods.{Has};

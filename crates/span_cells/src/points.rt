@@ -1,3 +1,5 @@
+//! The split points of a suffix.
+
 ghost use Rattle.std.specs.Prelude.{ℕ, ◌≡◌, ◌≤◌, ◌<◌, ◌+◌, ◌-◌, ◌⊎◌, Some, None, length, drop, slice_index_or};
 ghost use Rattle.roster_model.specs.Grammar.{rule_at, InDay};
 ghost use Rattle.roster_model.specs.Sound.{IsSound, Exists};

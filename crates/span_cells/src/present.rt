@@ -1,3 +1,5 @@
+//! The spans on which slots have sums.
+
 ghost use Rattle.std.specs.Prelude.{◌≡◌, ◌<◌, ◌+◌, IfOk, length};
 ghost use Rattle.span_cells.specs.Periods.{IsNoted, Keeps};
 

@@ -1,3 +1,5 @@
+//! Spans, suffixes, slots and the layout's type.
+
 ghost use Rattle.std.specs.Prelude.{◌≡◌, ◌<◌, ◌+◌};
 
 use crate::SpanIndex;

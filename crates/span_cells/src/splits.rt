@@ -1,3 +1,5 @@
+//! The least sum of a suffix between two slots.
+
 ghost use Rattle.std.specs.Prelude.{ℕ, ◌≡◌, ◌≤◌, ◌<◌, ◌+◌, ◌-◌, ◌^◌, pos, Some, None, IfSome, OnSome, length, drop, slice_index_or};
 ghost use Rattle.std.specs.Bool.{OnTrue};
 ghost use Rattle.roster_model.specs.declared.grammar.ArcKey.{ArcKey as Arc};

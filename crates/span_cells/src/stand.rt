@@ -1,3 +1,5 @@
+//! Where a rule may stand.
+
 ghost use Rattle.std.specs.Prelude.{◌≤◌, ◌↔◌, IsTrue};
 ghost use Rattle.roster_model.specs.Grammar.{IsInWindow, Stands};
 

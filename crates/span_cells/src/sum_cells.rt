@@ -1,3 +1,5 @@
+//! Cells for any sums.
+
 ghost use Rattle.std.specs.Prelude.{◌≡◌, IfOk};
 ghost use Rattle.roster_model.specs.Sound.{IsSound};
 ghost use Rattle.span_cells.specs.Cells.{AreMade, IsLayoutOf, IsReady};

@@ -1,3 +1,5 @@
+//! Optional sums, and the least of them.
+
 ghost use Rattle.std.specs.Prelude.{◌≡◌, ◌≤◌, ◌<◌, ◌^◌, ◌⊎◌, IfSome, Some};
 ghost use Rattle.roster_model.specs.Sums.{plus, Within, IsLesser};
 ghost use Rattle.span_cells.specs.Numbers.{sum_below};

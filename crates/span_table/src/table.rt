@@ -1,3 +1,5 @@
+//! The table, and its calls.
+
 ghost use Rattle.std.specs.Prelude.{◌≡◌, ◌<◌, IfOk, length};
 ghost use Rattle.roster_model.specs.declared.grammar.Grammar.{Grammar as Rules};
 ghost use Rattle.roster_model.specs.Room.{most_uses};

@@ -1,3 +1,5 @@
+//! The steps of a tree of least sum.
+
 ghost use Rattle.span_table.specs.Walks.{AsksTree, AsksParts, WritesTree, WritesParts};
 ghost use Rattle.std.specs.Prelude.{drop};
 

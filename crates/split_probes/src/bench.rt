@@ -1,3 +1,5 @@
+//! The program, and a copy for a cut.
+
 ghost use Rattle.master_rows.specs.NodeRows.{AreRows};
 ghost use Rattle.split_probes.specs.Nodes.{IsSplitNode};
 

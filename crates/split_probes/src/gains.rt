@@ -1,3 +1,5 @@
+//! What splits on letters gained.
+
 use crate::candidates::{Candidate, NEAR, ONE};
 use crate::halves::{Halves, product};
 use crate::letters::is_letter;

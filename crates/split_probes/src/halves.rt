@@ -1,3 +1,5 @@
+//! What both halves of a split gain.
+
 use crate::bench::ProbeBench;
 use crate::candidates::Candidate;
 use parse_graph::Graph;

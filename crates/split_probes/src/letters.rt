@@ -1,3 +1,5 @@
+//! Which arcs are letters.
+
 use roster_model::{ArcKey, Grammar, Sym};
 
 /// Returns the one code that a rule makes; `None` where it makes more.

@@ -1,3 +1,5 @@
+//! A node whose splits are tried.
+
 use crate::shares::Share;
 use arc_counts::ArcBox;
 use master_rows::Day;

@@ -1,3 +1,5 @@
+//! The call: what is tried, and which arc is named.
+
 ghost use Rattle.std.specs.Prelude.{◌<◌, IfOk, IfSome, length};
 ghost use Rattle.split_probes.specs.Nodes.{IsSplitNode};
 

@@ -1,3 +1,5 @@
+//! Weights.
+
 /// The weight of a tree of the pool.
 #[derive(Clone, Copy, Debug, Drop)]
 pub struct Share {

@@ -1,3 +1,5 @@
+//! Weights by arc, with a mark of the trees that have it.
+
 ghost use Rattle.std.specs.Prelude.{◌≡◌, length, IfOk};
 
 use crate::shares::Share;

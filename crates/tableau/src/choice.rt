@@ -1,3 +1,5 @@
+//! Which wanted column enters.
+
 ghost use Rattle.std.specs.Prelude.{ℕ, ◌≡◌, ◌≤◌, ◌<◌, ◌+◌, ◌^◌, pos, ◌≤ℤ◌, length, IfSome};
 ghost use Rattle.bound_laws.specs.linear_programs.Program.{Program, reduced};
 ghost use Rattle.fraction.specs.Row.{at};

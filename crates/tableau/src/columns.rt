@@ -1,3 +1,5 @@
+//! The trait of columns.
+
 ghost use Rattle.std.specs.Prelude.{
   ℕ,
   ◌≡◌,

@@ -1,3 +1,5 @@
+//! A column of negative reduced cost, made basic.
+
 ghost use Rattle.std.specs.Prelude.{ℕ, ◌≡◌, ◌≤◌, ◌<◌, ◌+◌, pos, ◌≤ℤ◌, ◌<ℤ◌, IfOk, IfErr, IfSome, IfNone, length};
 ghost use Rattle.bound_laws.specs.linear_programs.Program.{Program, IsSound, IsPricedOut};
 ghost use Rattle.fraction.specs.Row.{at};

@@ -1,3 +1,5 @@
+//! The end of a path.
+
 ghost use Rattle.std.specs.Prelude.{ℕ, ◌≡◌, ◌≤◌, ◌<◌, ◌+◌, ◌^◌, pos, ◌*ℤ◌, ◌≤ℤ◌, ◌<ℤ◌, IfOk, IfErr, length, slice_index, slice_index_or, unsigned_abs};
 ghost use Rattle.bound_laws.specs.linear_programs.Sums.{dot};
 ghost use Rattle.bound_laws.specs.linear_programs.Program.{Program, IsSound};

@@ -1,3 +1,5 @@
+//! The first tableau.
+
 ghost use Rattle.std.specs.Prelude.{ℕ, ◌≡◌, ◌≤◌, ◌<◌, ◌+◌, ◌^◌, pos, ◌≤ℤ◌, IfOk, IfErr, length, slice_index, unsigned_abs, ◌++◌, ◌∷◌, [], ℤ, List};
 ghost use Rattle.bound_laws.specs.linear_programs.Program.{Program, IsSound, unit_vector};
 ghost use Rattle.bound_laws.specs.linear_programs.Sums.{dot};

@@ -1,3 +1,5 @@
+//! A row of numbers.
+
 ghost use Rattle.std.specs.Prelude.{◌≡◌, ◌<◌, ◌≤◌, ◌^◌, pos, ◌<ℤ◌, unsigned_abs, length, IfOk, IfErr, MatchResult};
 ghost use Rattle.fraction.specs.Range.{refused};
 ghost use Rattle.fraction.specs.pivot_rows.Rows.{AreNarrow, StepsTo, IsWideStep};

@@ -1,3 +1,5 @@
+//! Which rows have a wanted basic column.
+
 use roster_model::Memory;
 use std::alloc::Global;
 

@@ -1,3 +1,5 @@
+//! The column of the least pivot among some.
+
 use crate::columns::Columns;
 use crate::line::NumberRow;
 use crate::marks::Marks;

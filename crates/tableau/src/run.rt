@@ -1,3 +1,5 @@
+//! Turns, one after another.
+
 ghost use Rattle.std.specs.Prelude.{ℕ, ◌≡◌, ◌≤◌, ◌<◌, ◌+◌, pos, ◌≤ℤ◌, IfOk, IfErr, IsTrue, false};
 ghost use Rattle.bound_laws.specs.linear_programs.Program.{Program, IsSound};
 ghost use Rattle.tableau.specs.Running.{IsRunning, IsPriced};

@@ -1,3 +1,5 @@
+//! The numbers of a tableau.
+
 ghost use Rattle.std.specs.Prelude.{ℕ, ◌≡◌, ◌≤◌, ◌<◌, ◌++◌, ◌∷◌, [], length, OnOk};
 ghost use Rattle.fraction.specs.Row.{at};
 ghost use Rattle.tableau.specs.Sheet.{AreCopied};

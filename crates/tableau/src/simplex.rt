@@ -1,3 +1,5 @@
+//! `solve`, and its answers.
+
 ghost use Rattle.std.specs.Prelude.{ℕ, ◌≡◌, ◌≤◌, ◌<◌, pos, ◌≤ℤ◌, IfOk, IfErr, IsTrue, length};
 ghost use Rattle.bound_laws.specs.linear_programs.Program.{IsSound};
 ghost use Rattle.fraction.specs.Row.{at};

@@ -1,3 +1,5 @@
+//! Which columns are small enough.
+
 ghost use Rattle.std.specs.Prelude.{ℕ, ◌≡◌, ◌≤◌, ◌<◌, ◌+◌, ◌^◌, pos, ◌*ℤ◌, ◌-ℤ◌, ◌≤ℤ◌, ◌<ℤ◌, unsigned_abs, length, All, OnOk, OnErr, MatchResult, IsTrue, ◌↔◌, ◌⊎◌};
 ghost use Rattle.std.specs.Bool.{OnTrue};
 ghost use Rattle.bound_laws.specs.linear_programs.Sums.{dot};

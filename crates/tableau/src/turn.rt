@@ -1,3 +1,5 @@
+//! One turn.
+
 ghost use Rattle.std.specs.Prelude.{ℕ, ◌≡◌, ◌≤◌, ◌<◌, ◌+◌, ◌^◌, pos, neg_ℤ, ◌≤ℤ◌, ◌<ℤ◌, unsigned_abs, length, slice_set, List, ℤ, IfOk, IfErr, MatchResult};
 ghost use Rattle.fraction.specs.Row.{at};
 ghost use Rattle.fraction.specs.Range.{refused};

@@ -1,3 +1,5 @@
+//! Three shifts by careful runs, also step by step.
+
 use crate::scouts::{LIMITS, costs_three, costs_three_from_each, is_about, three_shifts};
 use crate::watches::OverWatch;
 use scout::{Limits, Scout, Scouted};

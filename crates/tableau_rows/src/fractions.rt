@@ -1,3 +1,5 @@
+//! Sums, products, row steps and quotients, exact or refused.
+
 use fraction::{Frac, Tally, TooWide, add, compare, div, mul, row_step, scaled, sub};
 use std::cmp::Ordering;
 

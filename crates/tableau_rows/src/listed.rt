@@ -1,3 +1,5 @@
+//! A program of three rows whose columns are all listed, and what `Columns` asks of it.
+
 ghost use Rattle.std.specs.Prelude.{◌≡◌, IfOk};
 ghost use Rattle.fraction.specs.pivot_rows.Columns.{IsColumn, number_in};
 ghost use Rattle.tableau_rows.specs.Tables.{AreThree};

@@ -1,3 +1,5 @@
+//! The reduced cost of a column, and the first that is negative.
+
 ghost use Rattle.std.specs.Prelude.{ℕ, ◌≡◌, ◌<◌, pos, ◌+ℤ◌, ◌-ℤ◌, ◌*ℤ◌, ◌≤ℤ◌, ◌<ℤ◌, Some, IfOk, IfSome, IfNone, length, slice_get};
 ghost use Rattle.std.specs.Bool.{OnTrue, OnFalse};
 ghost use Rattle.bound_laws.specs.linear_programs.Program.{reduced};

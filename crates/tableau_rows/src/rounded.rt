@@ -1,3 +1,5 @@
+//! The prices of one cell.
+
 ghost use Rattle.std.specs.Prelude.{pos, ◌<ℤ◌};
 
 use fraction::Tally;

@@ -1,3 +1,5 @@
+//! Scouts over three shifts, over four by thirds, and over nested rows that grow.
+
 ghost use Rattle.std.specs.Prelude.{◌≡◌};
 ghost use Rattle.scout.specs.Sizes.{row_count};
 

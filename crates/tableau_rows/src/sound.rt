@@ -1,3 +1,5 @@
+//! Whether a program is sound: unit columns first, nothing negative.
+
 ghost use Rattle.std.specs.Prelude.{◌≡◌, ◌<◌, pos, ◌≤ℤ◌, All};
 ghost use Rattle.std.specs.Bool.{OnTrue};
 ghost use Rattle.bound_laws.specs.linear_programs.Program.{unit_vector};

@@ -1,3 +1,5 @@
+//! Tables of programs with their values, prices and weights, or why they are given up.
+
 ghost use Rattle.std.specs.Prelude.{◌≡◌};
 
 use crate::listed::{ColumnParts, Listed, program_of};

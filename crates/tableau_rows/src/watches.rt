@@ -1,3 +1,5 @@
+//! A watch that is over at each question.
+
 use search_watch::{Standing, Subject, Watch, Work};
 
 /// A watch that is over at each question, unless it begins without seconds.

@@ -1,3 +1,5 @@
+//! The price of a word, and a tree of it.
+
 ghost use Rattle.std.specs.Prelude.{◌≡◌, ◌≢◌, [], ◌∷◌, IfOk, IfSome, length, codes};
 ghost use Rattle.std.specs.Option.{option_copied};
 ghost use Rattle.roster_model.specs.Shifts.{IsPrice};

@@ -1,3 +1,5 @@
+//! Which shifts fit a pattern.
+
 ghost use Rattle.std.specs.Prelude.{◌≢◌, ◌≤◌, ◌∷◌, [], IfOk, IfSome};
 ghost use Rattle.std.specs.Option.{option_copied};
 ghost use Rattle.day_questions.specs.Fitting.{FitsAnswer};

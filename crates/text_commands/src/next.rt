@@ -1,3 +1,5 @@
+//! Which codes may follow a prefix.
+
 ghost use Rattle.std.specs.Prelude.{◌≢◌, ◌≤◌, ◌∷◌, [], IfOk, IfSome};
 ghost use Rattle.std.specs.Option.{option_copied};
 ghost use Rattle.day_questions.specs.Next.{NextAnswer};

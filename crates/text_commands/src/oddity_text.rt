@@ -1,3 +1,5 @@
+//! The words of such a note.
+
 use crate::text_places::{Mark, marked_line, nth_line};
 use findings::{Finding, WindowKind};
 use roster_model::{CodeDef, Grammar, Rule, Sym, Window};

@@ -1,3 +1,5 @@
+//! The first trees by cost.
+
 ghost use Rattle.std.specs.Prelude.{◌≡◌, ◌≤◌, ◌∷◌, [], IfOk, IfSome};
 ghost use Rattle.std.specs.Option.{option_copied};
 ghost use Rattle.day_questions.specs.Ranked.{RankedAnswer};

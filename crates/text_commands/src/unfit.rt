@@ -1,3 +1,5 @@
+//! What is noted of a word or pattern that is no shift.
+
 ghost use Rattle.std.specs.Prelude.{◌≡◌, IfOk};
 ghost use Rattle.roster_model.specs.Sound.{IsSound};
 ghost use Rattle.span_table.specs.Tables.{IsMadeFor};

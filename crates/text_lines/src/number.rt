@@ -1,3 +1,5 @@
+//! Words as numbers, and numbers as words.
+
 ghost use Rattle.std.specs.Prelude.{◌≡◌, ℤ, unsigned_abs, ◌+◌, ◌-◌, ◌*◌, ◌^◌, ◌<◌, ◌≤◌, ◌++◌, [], ◌∷◌, ◌||◌, ◌==◌, nat_lt, take, slice_index, length, IsTrue, IfOk, OnOk, OnErr, MatchOption};
 ghost use Rattle.std.specs.List.{list_all, AllPass};
 ghost use Rattle.std.specs.Fmt.{decimal};

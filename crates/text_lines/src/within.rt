@@ -1,3 +1,5 @@
+//! A number in a range.
+
 ghost use Rattle.std.specs.Prelude.{◌≡◌, ◌≤◌, IfOk};
 ghost use Rattle.text_lines.specs.Fields.{number_at};
 

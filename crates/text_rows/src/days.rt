@@ -1,3 +1,5 @@
+//! The days of the rows, each of a rules text and a demand text.
+
 ghost use Rattle.std.specs.Prelude.{IfOk};
 ghost use Rattle.roster_model.specs.SoundInstance.{IsSoundInstance};
 

@@ -1,3 +1,5 @@
+//! Demand texts that are read, and refused ones with their faults.
+
 ghost use Rattle.std.specs.Prelude.{IfOk};
 ghost use Rattle.roster_model.specs.Sound.{IsSound, IsPlain};
 

@@ -1,3 +1,5 @@
+//! Numbers at the ends of their range and words that are none; carriage returns, comments and bad bytes.
+
 use std::test::Fail;
 use text_lines::{Lines, NumberFault, read_natural, read_number};
 

@@ -1,3 +1,5 @@
+//! Proof texts that are read, and refused ones with their faults.
+
 ghost use Rattle.roster_model.specs.SoundInstance.{IsSoundInstance};
 
 use crate::days::{DayTexts, day};

@@ -1,3 +1,5 @@
+//! A report that is read, and the faults of three that are refused; the summary of a made day.
+
 ghost use Rattle.std.specs.Prelude.{◌≤◌, length};
 ghost use Rattle.roster_model.specs.SoundInstance.{IsSoundInstance};
 

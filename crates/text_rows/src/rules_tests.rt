@@ -1,3 +1,5 @@
+//! Rules texts that are read, and refused ones with their faults.
+
 use crate::days::BLOCKS;
 use roster_model::{List, Memory};
 use rules_text::{fault_line, read_rules, write_rules};

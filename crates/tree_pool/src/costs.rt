@@ -1,3 +1,5 @@
+//! What a tree costs.
+
 ghost use Rattle.std.specs.Prelude.{◌≡◌, ◌≤◌, All, length};
 ghost use Rattle.roster_model.specs.Folds.{sum_n};
 ghost use Rattle.roster_model.specs.Sound.{IsSound};

@@ -1,3 +1,5 @@
+//! The entry of a tree.
+
 ghost use Rattle.std.specs.Prelude.{◌≡◌, IfOk};
 ghost use Rattle.roster_model.specs.Sound.{IsSound};
 ghost use Rattle.tree_pool.specs.Entries.{TellFacts};

@@ -1,3 +1,5 @@
+//! What is asked of a tree often.
+
 ghost use Rattle.std.specs.Prelude.{IfOk};
 ghost use Rattle.roster_model.specs.Sound.{IsSound};
 ghost use Rattle.roster_model.specs.tree_laws.DaySteps.{AreDaySteps};

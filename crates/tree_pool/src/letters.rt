@@ -1,3 +1,5 @@
+//! The codes of a tree's letters.
+
 ghost use Rattle.std.specs.Prelude.{◌≡◌, IfOk};
 ghost use Rattle.roster_model.specs.Sound.{IsSound};
 ghost use Rattle.roster_model.specs.tree_laws.DaySteps.{AsksParts, AreDaySteps};

@@ -1,3 +1,5 @@
+//! The order of the rule uses, and the place of a tree in it.
+
 ghost use Rattle.std.specs.Prelude.{◌≡◌, ◌≤◌, ◌++◌, ◌∷◌, [], length, IfOk, IfErr, OnOk, OnErr};
 ghost use Rattle.std.specs.List.{insert};
 ghost use Rattle.tree_pool.specs.Orders.{rank_of, steps_of, steps_cmp, IsOrder, IsFoundAt, IsPlaceFor};

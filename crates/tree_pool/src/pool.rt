@@ -1,3 +1,5 @@
+//! The pool, and its calls.
+
 ghost use Rattle.std.specs.Prelude.{ℕ, ◌≡◌, ◌<◌, ◌≤◌, ◌^◌, Some, [], List as Items, length, slice_get, IfOk, IfErr, IsTrue, ◌↔◌};
 ghost use Rattle.roster_model.specs.declared.grammar.Grammar.{Grammar as Rules};
 ghost use Rattle.roster_model.specs.Sound.{IsSound};

@@ -1,3 +1,5 @@
+//! A tree by its rule uses.
+
 use roster_model::{List, Step};
 
 /// A tree of the day, by its rule uses in preorder.

@@ -1,3 +1,5 @@
+//! The arcs of a day of one block, in order.
+
 ghost use Rattle.roster_model.specs.Sound.{IsSound};
 ghost use Rattle.span_arcs.specs.DayArcs.{IsDayArcsOf};
 

@@ -1,3 +1,5 @@
+//! The made day of 7, and what a roster of one period costs at most.
+
 use made_days::make_instance;
 use roster_model::{Cell, Grammar, Instance, greatest_cost};
 use sample_days::{DayParts, ONE_PARTS, sound_day};

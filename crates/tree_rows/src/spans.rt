@@ -1,3 +1,5 @@
+//! Where a rule may stand, and how many spans a day has.
+
 use roster_model::{List, Rule, Window};
 use span_cells::{SpanIndex, may_stand};
 

@@ -1,3 +1,5 @@
+//! Roster texts and reports that are read, and refused ones with their faults.
+
 ghost use Rattle.std.specs.Prelude.{IfOk};
 ghost use Rattle.roster_model.specs.SoundInstance.{IsSoundInstance};
 

@@ -1,3 +1,5 @@
+//! The box, and all its calls.
+
 ghost use Rattle.std.specs.Prelude.{ℕ, ◌≡◌, ◌≤◌, ◌<◌, ◌↔◌, List, [], ◌∷◌, ◌++◌, All, IsTrue, IfOk, MatchOption, Some, length, slice_get, slice_set};
 ghost use Rattle.roster_model.specs.declared.grammar.ArcKey.{ArcKey as Arc};
 ghost use Rattle.roster_model.specs.declared.instance.Cut.{Cut};

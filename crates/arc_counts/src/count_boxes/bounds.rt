@@ -1,3 +1,5 @@
+//! The least and the greatest count of one arc, and the two sides of a cut on them.
+
 ghost use Rattle.std.specs.Prelude.{◌≡◌, ◌<◌};
 ghost use Rattle.arc_counts.specs.count_boxes.Boxes.{halved};
 

@@ -1,3 +1,5 @@
+//! The base cuts, and the box that they leave.
+
 ghost use Rattle.std.specs.Prelude.{◌≡◌, IfOk};
 ghost use Rattle.roster_model.specs.Cuts.{base_cuts};
 ghost use Rattle.roster_model.specs.SoundInstance.{IsSoundInstance};

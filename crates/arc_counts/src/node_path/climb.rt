@@ -1,3 +1,5 @@
+//! The cuts on the way from a node up to the root.
+
 ghost use Rattle.std.specs.Prelude.{◌≡◌, ◌≤◌, ◌++◌, OnOk, length, take, drop, reverse};
 ghost use Rattle.roster_model.specs.declared.instance.Instance.{Instance};
 ghost use Rattle.arc_counts.specs.node_path.Paths.{HasNode};

@@ -1,3 +1,5 @@
+//! The path, and its calls.
+
 ghost use Rattle.std.specs.Prelude.{◌≡◌, IfOk, OnOk};
 ghost use Rattle.roster_model.specs.Cuts.{base_cuts};
 ghost use Rattle.bound_laws.specs.Pinned.{IsPinnedValue};

@@ -1,3 +1,5 @@
+//! Turns, made and undone.
+
 ghost use Rattle.std.specs.Prelude.{◌≡◌, [], List, IfSome, IfNone, OnOk};
 ghost use Rattle.roster_model.specs.declared.instance.Cut.{Cut as OneCut};
 ghost use Rattle.roster_model.specs.declared.instance.Instance.{Instance};

@@ -1,3 +1,5 @@
+//! The first node that is not even.
+
 ghost use Rattle.std.specs.Prelude.{◌≡◌, ◌≤◌, ◌<◌, All, MatchResult, length};
 ghost use Rattle.arc_counts.specs.roster_split.Counts.{sum_at};
 ghost use Rattle.arc_counts.specs.roster_split.Evens.{HasCounts, AreAllEven, IsUneven};

@@ -1,3 +1,5 @@
+//! Why counts are not split.
+
 use roster_model::Memory;
 
 /// Why counts are not split into trees.

@@ -1,3 +1,5 @@
+//! The law.
+
 ghost use Rattle.arc_counts.specs.roster_split.Balanced.{SplitBalanced};
 
 /// Numbers that are balanced at every name and suffix save the root are the counts of the arcs of a

@@ -1,3 +1,5 @@
+//! One tree, taken from what is left.
+
 ghost use Rattle.std.specs.Prelude.{ℕ, ◌≡◌, ◌≤◌, ◌<◌, ◌++◌, Some, All, IfOk, OnOk, length, slice_get, slice_index};
 ghost use Rattle.roster_model.specs.arc_laws.AtNodes.{steps_of};
 ghost use Rattle.arc_counts.specs.roster_split.Taking.{AsksArc, TakesArc, AsksTree, TakesTree};

@@ -1,3 +1,5 @@
+//! The laws.
+
 ghost use Rattle.bound_laws.specs.least_values.Laws.{HaveLeastSums, HaveValues, BestBoundsRivals};
 
 /// Under any prices the trees of a name have a least sum over the day of a sound grammar, or none has a sum.

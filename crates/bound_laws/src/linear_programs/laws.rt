@@ -1,3 +1,5 @@
+//! The trait, and the laws.
+
 ghost use Rattle.std.specs.Prelude.{◌≡◌, ◌↔◌, ◌<◌, ◌+◌, ℕ, ℤ, pos, unsigned_abs, ◌*ℤ◌, ◌≤ℤ◌, ◌<ℤ◌, List};
 ghost use Rattle.bound_laws.specs.linear_programs.Sums.{dot};
 ghost use Rattle.bound_laws.specs.linear_programs.RowStep.{IsRowStep, MeetsRow};

@@ -1,3 +1,5 @@
+//! The laws.
+
 ghost use Rattle.bound_laws.specs.master_laws.Ends.{WeightsApart, PathEnds};
 ghost use Rattle.bound_laws.specs.master_laws.Rounding.{WideRounding};
 ghost use Rattle.bound_laws.specs.master_laws.Worked.{WorkedMaster};

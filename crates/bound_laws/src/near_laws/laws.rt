@@ -1,3 +1,5 @@
+//! The laws.
+
 ghost use Rattle.bound_laws.specs.near_laws.Laws.{RivalsBelowSolutions, NearAreBest, CompletedSolves, CompletedCostsLeast, NearTreesShowBest, NearCountsClose};
 ghost use Rattle.bound_laws.specs.near_laws.Worked.{WorkedCompleted};
 

@@ -1,3 +1,5 @@
+//! The laws.
+
 ghost use Rattle.certificates.specs.certificate_laws.Laws.{YesIsSound, OneShownValue, CausesRefuse, OneFirstCause};
 ghost use Rattle.certificates.specs.certificate_laws.Worked.{WorkedNodes};
 

@@ -1,3 +1,5 @@
+//! The laws.
+
 ghost use Rattle.certificates.specs.growing_laws.Laws.{GrownShows, LeastBound, PutRises, PutTimes, PutBusy, PutMissed, GrownCounts, FewNodes};
 ghost use Rattle.certificates.specs.growing_laws.Opens.{PutOpens, OpensSound, OpensLeast};
 ghost use Rattle.certificates.specs.growing_laws.Seats.{SeatedPut, PutNumbers, SeatsLeadUp, SeatsGiveNodes};

@@ -1,3 +1,5 @@
+//! The nodes of a certificate, from the seats.
+
 ghost use Rattle.std.specs.Prelude.{◌≡◌, ◌<◌, ◌∷◌, [], ◌++◌, IfOk, OnOk, length, slice_set};
 ghost use Rattle.certificates.specs.Nodes.{preorder};
 ghost use Rattle.certificates.specs.growing_laws.Grown.{Grown, proof_of};

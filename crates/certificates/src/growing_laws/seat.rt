@@ -1,3 +1,5 @@
+//! A node of the tree of a search.
+
 use crate::Node;
 use roster_model::Cut;
 

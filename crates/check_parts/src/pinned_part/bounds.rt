@@ -1,3 +1,5 @@
+//! The bounds that cuts leave an arc.
+
 ghost use Rattle.std.specs.Prelude.{◌≡◌, ◌≤◌, All};
 ghost use Rattle.roster_model.specs.Cuts.{lo, hi};
 ghost use Rattle.roster_model.specs.Limits.{IsSmallCut};

@@ -1,3 +1,5 @@
+//! An arc, counted at its places.
+
 ghost use Rattle.std.specs.Prelude.{ℕ, ◌≡◌, ◌≤◌, ◌<◌, ◌+ℤ◌, ◌-ℤ◌, ◌^◌, pos, IfSome, length, map, slice_index_or, slice_set};
 ghost use Rattle.roster_model.specs.Grammar.{InDay};
 ghost use Rattle.roster_model.specs.Sound.{IsSound, Exists};

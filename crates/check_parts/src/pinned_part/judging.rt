@@ -1,3 +1,5 @@
+//! Whether the numbers at the places balance, and the count of the root.
+
 ghost use Rattle.std.specs.Prelude.{◌≡◌, ◌≢◌, ◌≤◌, ◌<◌, ◌↔◌, IsTrue, MatchOption, length};
 ghost use Rattle.roster_model.specs.Sound.{IsSound};
 ghost use Rattle.roster_model.specs.arc_laws.OrNodes.{root_of};

@@ -1,3 +1,5 @@
+//! The first loose arc.
+
 ghost use Rattle.std.specs.Prelude.{◌<◌, ◌↔◌, All, IsTrue, MatchOption};
 ghost use Rattle.roster_model.specs.SoundInstance.{IsSoundInstance};
 ghost use Rattle.roster_model.specs.arc_laws.Loose.{IsLoose, IsFirstLoose};

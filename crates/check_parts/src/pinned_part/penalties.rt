@@ -1,3 +1,5 @@
+//! The penalties of the cells.
+
 ghost use Rattle.std.specs.Prelude.{◌≡◌, ◌≤◌, ◌*◌, ◌↔◌, All, IsTrue, MatchOption, length};
 ghost use Rattle.roster_model.specs.declared.instance.Cell.{Cell as DayCell};
 ghost use Rattle.roster_model.specs.Coverage.{penalty, IsWithinCell};

@@ -1,3 +1,5 @@
+//! The place of each name, suffix and letter.
+
 ghost use Rattle.std.specs.Prelude.{◌≡◌, ◌≤◌, ◌<◌, ◌+◌, ◌-◌, ◌*◌, ◌^◌, length};
 ghost use Rattle.roster_model.specs.Grammar.{InDay};
 ghost use Rattle.roster_model.specs.Sound.{IsSound};

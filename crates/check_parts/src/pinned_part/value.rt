@@ -1,3 +1,5 @@
+//! What pinned counts cost.
+
 ghost use Rattle.std.specs.Prelude.{◌≡◌, ◌≤◌, ◌*◌, All, MatchOption, length};
 ghost use Rattle.roster_model.specs.declared.grammar.Grammar.{Grammar as Rules};
 ghost use Rattle.roster_model.specs.declared.instance.Cell.{Cell as DayCell};

@@ -1,3 +1,5 @@
+//! All arcs, counted and paid.
+
 ghost use Rattle.std.specs.Prelude.{ℕ, ◌≡◌, ◌≤◌, ◌<◌, ◌*◌, ◌^◌, pos, All, length, slice_index_or};
 ghost use Rattle.roster_model.specs.Sound.{IsSound};
 ghost use Rattle.roster_model.specs.arc_laws.Counts.{top_cost};

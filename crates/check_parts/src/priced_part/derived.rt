@@ -1,3 +1,5 @@
+//! Which names derive a word of the day.
+
 ghost use Rattle.std.specs.Prelude.{◌<◌, ◌↔◌, IsTrue, length};
 ghost use Rattle.roster_model.specs.Sound.{IsSound};
 ghost use Rattle.roster_model.specs.Trees.{Parts, IsTreeOf};

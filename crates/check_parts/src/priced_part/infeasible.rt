@@ -1,3 +1,5 @@
+//! Whether the head counts or a cell alone show that no roster is allowed.
+
 ghost use Rattle.std.specs.Prelude.{◌≡◌, ◌<◌, ◌↔◌, All, IsTrue, false, true, length, min, slice_index_or};
 ghost use Rattle.roster_model.specs.declared.instance.Cell.{Cell as Demanded};
 ghost use Rattle.roster_model.specs.declared.instance.Group.{Group as Members};

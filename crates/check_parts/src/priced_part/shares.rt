@@ -1,3 +1,5 @@
+//! What the trees, the cells and the cuts bring to it.
+
 ghost use Rattle.std.specs.Prelude.{◌≡◌, ◌≤◌, ◌*◌, ◌^◌, ◌*ℤ◌, pos, All, IfSome, length};
 ghost use Rattle.roster_model.specs.Coverage.{penalty};
 ghost use Rattle.roster_model.specs.Folds.{sum_z};

@@ -1,3 +1,5 @@
+//! How many words have a letter, period by period.
+
 ghost use Rattle.std.specs.Prelude.{◌≡◌, ◌≤◌, ℕ, ◌+◌, ◌-◌, ◌<◌, ◌^◌, All, None, Some, cond, length, slice_index};
 ghost use Rattle.roster_model.specs.Coverage.{covered, code_byte, has_at};
 ghost use Rattle.roster_model.specs.Limits.{IsDayCell};

@@ -1,3 +1,5 @@
+//! The first cell outside its range.
+
 ghost use Rattle.std.specs.Prelude.{◌≤◌, MatchOption, length};
 ghost use Rattle.roster_model.specs.Coverage.{covered, IsWithinCell};
 ghost use Rattle.roster_model.specs.Folds.{Each};

@@ -1,3 +1,5 @@
+//! The first cause on a stated roster.
+
 ghost use Rattle.std.specs.Prelude.{◌≡◌, ◌≢◌, ◌≤◌, MatchOption, length};
 ghost use Rattle.roster_model.specs.declared.grammar.Grammar.{Grammar as Rules};
 ghost use Rattle.roster_model.specs.Folds.{Each};

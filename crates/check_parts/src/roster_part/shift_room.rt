@@ -1,3 +1,5 @@
+//! The room for stated shifts.
+
 ghost use Rattle.std.specs.Prelude.{◌≡◌, ◌≤◌, ◌<◌, [], ◌∷◌, ◌++◌, All, IfOk, length};
 
 use crate::roster_part::stated::StatedShift;

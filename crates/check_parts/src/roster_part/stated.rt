@@ -1,3 +1,5 @@
+//! A stated shift.
+
 ghost use Rattle.std.specs.Prelude.{◌≡◌, ◌≤◌, [], IfOk, length};
 
 use roster_model::Memory;

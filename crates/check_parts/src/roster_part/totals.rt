@@ -1,3 +1,5 @@
+//! How many shifts a team has, and what the roster costs.
+
 ghost use Rattle.std.specs.Prelude.{◌≡◌, ◌≤◌, ◌*◌, ◌^◌, MatchOption, All, length, nat_eq, count_by};
 ghost use Rattle.roster_model.specs.Coverage.{covered, penalty};
 ghost use Rattle.roster_model.specs.Folds.{Each, sum_n};

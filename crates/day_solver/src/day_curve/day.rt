@@ -1,3 +1,5 @@
+//! The curve with the day's graph and the texts of its certificates.
+
 ghost use Rattle.std.specs.Prelude.{ℕ, ◌≡◌, ◌≤◌, ◌<◌, ◌+◌, ◌-◌, Bool, IfOk, IfErr};
 ghost use Rattle.branch_price.specs.Found.{AreCounted};
 ghost use Rattle.branch_price.specs.OldRosters.{IsNoDearerThan};

@@ -1,3 +1,5 @@
+//! The laws.
+
 ghost use Rattle.day_solver.specs.day_curve.Laws.{AllowedWithMore, CostsFall, OfferedCostsFall};
 
 /// A roster that is allowed with few employees of a team at most is allowed with more, at the same cost.

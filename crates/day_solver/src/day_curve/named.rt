@@ -1,3 +1,5 @@
+//! Whose number is varied, by a name.
+
 ghost use Rattle.std.specs.Prelude.{◌≡◌, ◌<◌, IfSome, length};
 ghost use Rattle.std.specs.Option.{option_copied};
 ghost use Rattle.day_solver.specs.day_curve.Named.{group_place, is_named, staff_of};

@@ -1,3 +1,5 @@
+//! The day with another greatest number of a team.
+
 ghost use Rattle.std.specs.Prelude.{◌≡◌, ◌<◌, ◌≤◌, ◌^◌, length};
 ghost use Rattle.day_solver.specs.day_curve.Staffs.{IsStaff, groups_with, staff_least, staff_most, with_group, with_heads};
 

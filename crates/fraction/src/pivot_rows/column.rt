@@ -1,3 +1,5 @@
+//! Columns by their entries, and an entry in a row.
+
 ghost use Rattle.std.specs.Prelude.{ℕ, ◌≡◌, ◌≤◌, ◌<◌, ◌^◌, ◌*ℤ◌, length, unsigned_abs};
 ghost use Rattle.bound_laws.specs.linear_programs.Sums.{dot};
 ghost use Rattle.fraction.specs.Row.{at};

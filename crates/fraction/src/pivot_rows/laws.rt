@@ -1,3 +1,5 @@
+//! The law.
+
 ghost use Rattle.fraction.specs.pivot_rows.Rows.{RowStepsExist};
 
 /// Each row of numbers has a step by each other row.

@@ -1,3 +1,5 @@
+//! The row of a pivot.
+
 ghost use Rattle.std.specs.Prelude.{◌≡◌, ◌≤◌, ◌-◌, ◌++◌, length, IfOk, vec_capacity};
 ghost use Rattle.fraction.specs.pivot_rows.Rows.{zeros};
 ghost use Rattle.fraction.specs.pivot_rows.Places.{AreListed};

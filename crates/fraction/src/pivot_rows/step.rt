@@ -1,3 +1,5 @@
+//! A step of elimination.
+
 ghost use Rattle.std.specs.Prelude.{◌≡◌, ◌≤◌, ◌<◌, ◌^◌, pos, ◌<ℤ◌, ◌*ℤ◌, max, length, unsigned_abs, int_div, IfOk, IfErr, MatchResult};
 ghost use Rattle.std.specs.Int.{IsGcd, ◌∣◌};
 ghost use Rattle.bound_laws.specs.linear_programs.RowStep.{combined, IsCommonFactor};

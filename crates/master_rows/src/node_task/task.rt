@@ -1,3 +1,5 @@
+//! A node's task.
+
 use crate::NodeRows;
 use crate::search_day::Day;
 use roster_model::Cut;

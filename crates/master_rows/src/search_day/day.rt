@@ -1,3 +1,5 @@
+//! A day.
+
 use parse_graph::Graph;
 use roster_model::Instance;
 

@@ -1,3 +1,5 @@
+//! What prices its trees.
+
 ghost use Rattle.std.specs.Prelude.{◌≡◌, IfOk};
 ghost use Rattle.master_rows.specs.search_day.Days.{IsDay};
 ghost use Rattle.master_rows.specs.search_day.Rooms.{ArePricing};

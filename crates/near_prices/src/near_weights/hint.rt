@@ -1,3 +1,5 @@
+//! The listed trees and the prices.
+
 ghost use Rattle.std.specs.Prelude.{◌≤◌, ◌^◌, All, IfOk, length};
 ghost use Rattle.roster_model.specs.SoundInstance.{IsSoundInstance};
 ghost use Rattle.master_rows.specs.NodeRows.{AreRows};

@@ -1,3 +1,5 @@
+//! Raising and lowering passes.
+
 use crate::near_weights::table::{RowBalance, Table, Weighted};
 
 /// The most passes over the rows; the last one lowers.

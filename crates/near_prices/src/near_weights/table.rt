@@ -1,3 +1,5 @@
+//! The rows, and what the trees bring to them.
+
 ghost use Rattle.roster_model.specs.SoundInstance.{IsSoundInstance};
 ghost use Rattle.master_rows.specs.NodeRows.{AreRows};
 

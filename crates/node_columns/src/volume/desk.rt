@@ -1,3 +1,5 @@
+//! What the passes work on, beside the pricer.
+
 ghost use Rattle.std.specs.Prelude.{IfOk};
 ghost use Rattle.cheapest_tree.specs.Pricers.{PricerView, IsMadeFor};
 ghost use Rattle.master_rows.specs.node_task.Tasks.{IsTask};

@@ -1,3 +1,5 @@
+//! Floats and whole numbers.
+
 use std::num::{nearest_i64_to_f64, saturating_f64_to_i64};
 
 /// A price of a row, a bound, or a sum of what rows are worth: a float of 64 bits.

@@ -1,3 +1,5 @@
+//! Trees with their reduced costs, and how they are listed.
+
 ghost use Rattle.std.specs.Prelude.{◌<◌, All, IfOk, length};
 ghost use Rattle.roster_model.specs.SoundInstance.{IsSoundInstance};
 ghost use Rattle.tree_pool.specs.Pools.{IsPool, IsGrown};

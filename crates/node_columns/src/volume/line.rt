@@ -1,3 +1,5 @@
+//! The numbers of a row.
+
 ghost use Rattle.std.specs.Prelude.{◌<◌};
 ghost use Rattle.master_rows.specs.node_task.Tasks.{IsTask, row_count};
 

@@ -1,3 +1,5 @@
+//! How far a pass goes.
+
 use crate::volume::float::{Cover64, Price64, Share64, bounded, greater, lesser};
 
 /// The factor of the first step, and that of the first one from given prices.

@@ -1,3 +1,5 @@
+//! The passes.
+
 ghost use Rattle.master_rows.specs.node_task.Tasks.{IsTask};
 ghost use Rattle.node_columns.specs.volume.Desks.{IsVolumeDesk};
 

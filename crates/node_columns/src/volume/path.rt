@@ -1,3 +1,5 @@
+//! Prices from pass to pass.
+
 ghost use Rattle.std.specs.Prelude.{◌≡◌, IfOk, length};
 ghost use Rattle.master_rows.specs.node_task.Tasks.{IsTask, row_count};
 

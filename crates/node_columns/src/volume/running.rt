@@ -1,3 +1,5 @@
+//! The whole call.
+
 ghost use Rattle.std.specs.Prelude.{◌≡◌, IfOk};
 ghost use Rattle.cheapest_tree.specs.Pricers.{IsMadeFor};
 ghost use Rattle.master_rows.specs.node_task.Tasks.{IsTask};

@@ -1,3 +1,5 @@
+//! The text.
+
 ghost use Rattle.std.specs.Prelude.{◌≡◌, ◌≤◌, ◌++◌, All, IfOk, OnOk, length};
 ghost use Rattle.roster_model.specs.SoundInstance.{IsSoundInstance};
 ghost use Rattle.roster_csv.specs.roster_calendar.Calendars.{calendar_of, first_lines, last_lines};

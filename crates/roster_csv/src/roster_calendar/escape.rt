@@ -1,3 +1,5 @@
+//! Values of text.
+
 ghost use Rattle.std.specs.Prelude.{◌≡◌, ◌++◌, IfOk, OnOk};
 ghost use Rattle.roster_csv.specs.roster_calendar.Escapes.{escaped, escaped_byte, is_escaped};
 

@@ -1,3 +1,5 @@
+//! The events of shifts.
+
 ghost use Rattle.std.specs.Prelude.{◌≡◌, ◌≤◌, ◌+◌, ◌*◌, ◌^◌, ◌++◌, [], ◌∷◌, IfOk, OnOk, count_by, length};
 ghost use Rattle.roster_csv.specs.roster_calendar.Dates.{date_text};
 ghost use Rattle.roster_csv.specs.roster_calendar.Events.{

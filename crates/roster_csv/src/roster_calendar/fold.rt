@@ -1,3 +1,5 @@
+//! Lines, folded.
+
 ghost use Rattle.std.specs.Prelude.{◌≡◌, ◌≤◌, ◌++◌, OnOk};
 ghost use Rattle.roster_csv.specs.roster_calendar.Folds.{folded, folded_byte, goes_on, line_text, room_behind, text_of, width};
 

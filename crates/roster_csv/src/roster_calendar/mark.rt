@@ -1,3 +1,5 @@
+//! The mark of a title, a group and a word.
+
 ghost use Rattle.std.specs.Prelude.{ℕ, List as Items, ◌≡◌, ◌++◌, OnOk};
 ghost use Rattle.hex.specs.Hex.{encode_lower};
 ghost use Rattle.sha2.specs.Hashers.{Holds256};

@@ -1,3 +1,5 @@
+//! What all events share.
+
 use crate::roster_calendar::date::Date;
 use page_labels::Clock;
 

@@ -1,3 +1,5 @@
+//! What a shift is called, and what it has when.
+
 ghost use Rattle.std.specs.Prelude.{◌≡◌, ◌≤◌, ◌++◌, IfOk, OnOk, length};
 ghost use Rattle.std.specs.Fmt.{decimal};
 ghost use Rattle.roster_csv.specs.roster_calendar.Events.{

@@ -1,3 +1,5 @@
+//! The laws.
+
 ghost use Rattle.roster_model.specs.arc_laws.Laws.{
   ArcOnce,
   MadeOnce,

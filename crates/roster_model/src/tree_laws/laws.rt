@@ -1,3 +1,5 @@
+//! The laws.
+
 ghost use Rattle.roster_model.specs.tree_laws.Laws.{OneLeastTree, OneLeastParts, SplitByFirst, SplitByRule, FewUses, SmallSums};
 
 /// A symbol's trees on a span have one least sum.

@@ -1,3 +1,5 @@
+//! The laws.
+
 ghost use Rattle.roster_model.specs.word_prices.Prices.{LeastTree, ShiftLength, WordSums};
 
 /// Under the prices of a word that is as long as the day, a tree of the day has a sum exactly where

@@ -1,3 +1,5 @@
+//! The prices of a word.
+
 ghost use Rattle.std.specs.Prelude.{◌≡◌, ◌≤◌, ℕ, length};
 ghost use Rattle.roster_model.specs.Arcs.{rule_cost};
 ghost use Rattle.roster_model.specs.Sound.{IsSound};

@@ -1,3 +1,5 @@
+//! The two laws.
+
 ghost use Rattle.roster_value.specs.group_rules.Laws.{PlainOfExtended, SamePrices};
 
 /// States a law: without what groups add, a grammar that they extend is that of the rules, from another

@@ -1,3 +1,5 @@
+//! The copy.
+
 ghost use Rattle.std.specs.Prelude.{◌≡◌, ◌++◌, [], ◌∷◌, IfOk, OnOk};
 ghost use Rattle.roster_value.specs.group_rules.Plain.{added_names, plain_from};
 

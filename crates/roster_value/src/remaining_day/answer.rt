@@ -1,3 +1,5 @@
+//! The remaining day, or why there is none.
+
 use crate::Cause;
 use roster_model::{Instance, List};
 

@@ -1,3 +1,5 @@
+//! Those causes of `roster_value` that further shifts do not mend, in their order.
+
 ghost use Rattle.std.specs.Prelude.{◌≡◌, ◌≤◌, ◌++◌, [], ◌∷◌, IfOk, OnOk, filter, length};
 ghost use Rattle.roster_model.specs.SoundInstance.{IsSoundInstance};
 ghost use Rattle.certificates.specs.RosterCauses.{duties};

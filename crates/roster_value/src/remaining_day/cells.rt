@@ -1,3 +1,5 @@
+//! The cells beside the kept shifts, and what overstaffing costs.
+
 ghost use Rattle.std.specs.Prelude.{◌≡◌, ◌≤◌, ◌*◌, All, IfOk, length, map};
 ghost use Rattle.roster_model.specs.Coverage.{covered, overstaffing};
 ghost use Rattle.roster_model.specs.Folds.{sum_n};

@@ -1,3 +1,5 @@
+//! How many shifts of a team are kept.
+
 ghost use Rattle.std.specs.Prelude.{◌≡◌, ◌≤◌, length, nat_eq, count_by};
 ghost use Rattle.certificates.specs.RosterCauses.{duties};
 ghost use Rattle.roster_value.specs.remaining_day.Remaining.{kept_of};

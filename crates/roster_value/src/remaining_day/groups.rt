@@ -1,3 +1,5 @@
+//! The groups of which somebody is left.
+
 ghost use Rattle.std.specs.Prelude.{◌≡◌, ◌≤◌, ◌++◌, [], ◌==◌, if◌then◌else◌, ◌∷◌, IfOk, OnOk, length};
 ghost use Rattle.certificates.specs.RosterCauses.{duties};
 ghost use Rattle.roster_value.specs.remaining_day.Remaining.{group_left, groups_left};

@@ -1,3 +1,5 @@
+//! `remaining`, by the prices that `found_of` of `roster_value` finds.
+
 ghost use Rattle.std.specs.Prelude.{◌≡◌, ◌≤◌, [], All, IfOk, length, unwrap_or};
 ghost use Rattle.roster_model.specs.Folds.{Each, sum_n};
 ghost use Rattle.roster_model.specs.SoundInstance.{IsSoundInstance};

@@ -1,3 +1,5 @@
+//! Which rosters have the kept shifts, and how the text is read.
+
 ghost use Rattle.roster_value.specs.remaining_day.Laws.{RestIsRight};
 ghost use Rattle.roster_value.specs.remaining_day.OtherLaws.{CausesForbid, RestIsRead};
 

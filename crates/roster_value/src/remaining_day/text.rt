@@ -1,3 +1,5 @@
+//! The texts.
+
 ghost use Rattle.std.specs.Prelude.{◌≡◌, ◌++◌, [], ◌∷◌, List as Items, IfOk, OnOk, codes as text, length};
 ghost use Rattle.roster_model.specs.Demands.{Demand};
 ghost use Rattle.roster_model.specs.SoundInstance.{IsSoundInstance};

@@ -1,3 +1,5 @@
+//! A word of a line.
+
 ghost use Rattle.std.specs.Prelude.{◌≡◌, ◌<◌, ◌≤◌, length, position, IfSome};
 ghost use Rattle.proof_pieces.specs.Fields.{has_name};
 ghost use Rattle.roster_value.specs.stated_rosters.Fields.{group_at, is_number};

@@ -1,3 +1,5 @@
+//! What a fault tells.
+
 ghost use Rattle.std.specs.Prelude.{◌≡◌, ◌⊎◌, ℕ, List, Err};
 ghost use Rattle.roster_model.specs.declared.instance.Instance.{Instance};
 ghost use Rattle.roster_value.specs.declared.stated_rosters.fault.RosterFault.{RosterFault};

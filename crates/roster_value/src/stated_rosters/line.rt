@@ -1,3 +1,5 @@
+//! A line.
+
 ghost use Rattle.std.specs.Prelude.{◌≡◌, ◌≤◌, List as Items, length};
 ghost use Rattle.roster_model.specs.declared.instance.Shift.{Shift as Said};
 ghost use Rattle.proof_pieces.specs.ShiftLines.{is_pair};

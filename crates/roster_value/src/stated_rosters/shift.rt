@@ -1,3 +1,5 @@
+//! A shift's line.
+
 ghost use Rattle.std.specs.Prelude.{◌≡◌, ◌≤◌, None, Some, length, IfOk, MatchOption};
 ghost use Rattle.std.specs.Option.{option_copied};
 ghost use Rattle.roster_value.specs.stated_rosters.ShiftLines.{

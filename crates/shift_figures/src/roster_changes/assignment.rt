@@ -1,3 +1,5 @@
+//! Choices and prices of two rosters, by the Hungarian method.
+
 ghost use Rattle.std.specs.Prelude.{◌≤◌, length};
 
 use crate::roster_changes::board::Board;

@@ -1,3 +1,5 @@
+//! The Hungarian method.
+
 use roster_model::Memory;
 use std::alloc::{AllocError, Global};
 

@@ -1,3 +1,5 @@
+//! How many periods and shifts differ under a matching.
+
 ghost use Rattle.std.specs.Prelude.{◌≡◌, ◌<◌, ◌≤◌, ◌↔◌, IfSome, IsTrue, length};
 ghost use Rattle.shift_figures.specs.roster_changes.Totals.{total};
 ghost use Rattle.shift_figures.specs.roster_changes.Matchings.{shift_at, choice, IsFree, IsMatching};

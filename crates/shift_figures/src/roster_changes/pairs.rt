@@ -1,3 +1,5 @@
+//! Which choices there are.
+
 ghost use Rattle.std.specs.Prelude.{◌≡◌, ◌<◌, ◌≤◌, ◌↔◌, Some, length, IsTrue};
 ghost use Rattle.shift_figures.specs.roster_changes.Matchings.{shift_at, choice, IsFree, IsPair};
 ghost use Rattle.shift_figures.specs.roster_changes.Stages.{MayFollow, Fits, Extends, IsCandidate, IsOpen};

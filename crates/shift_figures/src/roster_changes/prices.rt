@@ -1,3 +1,5 @@
+//! Prices that show that choices score the most.
+
 ghost use Rattle.std.specs.Prelude.{◌≡◌, ◌+◌, ◌<◌, ◌≤◌, Some, IfSome, length, slice_index, IsTrue};
 ghost use Rattle.shift_figures.specs.roster_changes.Totals.{total};
 ghost use Rattle.shift_figures.specs.roster_changes.Scores.{row_score};

@@ -1,3 +1,5 @@
+//! What choices score.
+
 ghost use Rattle.std.specs.Prelude.{◌≡◌, ◌-◌, ◌*◌, ◌^◌, ◌<◌, ◌≤◌, Some, IfSome, length};
 ghost use Rattle.shift_figures.specs.roster_changes.Matchings.{choice};
 ghost use Rattle.shift_figures.specs.roster_changes.Scores.{weight, unit, lead, row_score, score};

@@ -1,3 +1,5 @@
+//! A search through all choices.
+
 ghost use Rattle.std.specs.Prelude.{◌≡◌, ◌<◌, ◌≤◌, ◌⊎◌, ◌++◌, [], ◌∷◌, IfOk, IfSome, Some, length};
 ghost use Rattle.shift_figures.specs.roster_changes.Matchings.{choice};
 ghost use Rattle.shift_figures.specs.roster_changes.Scores.{score};

@@ -1,3 +1,5 @@
+//! The choices, one after another.
+
 ghost use Rattle.std.specs.Prelude.{◌≡◌, ◌<◌, ◌≤◌, IfOk, length};
 ghost use Rattle.shift_figures.specs.roster_changes.Matchings.{choice};
 ghost use Rattle.shift_figures.specs.roster_changes.Stages.{Fits, IsBest, IsNext};

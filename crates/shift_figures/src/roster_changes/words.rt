@@ -1,3 +1,5 @@
+//! In which periods two shifts differ.
+
 ghost use Rattle.std.specs.Prelude.{◌≡◌, ◌≢◌, ◌≤◌, ◌↔◌, slice_index, IsTrue};
 ghost use Rattle.shift_figures.specs.roster_changes.Changes.{difference, differing_periods};
 

@@ -1,3 +1,5 @@
+//! From a name to the parts of its rules.
+
 ghost use Rattle.std.specs.Prelude.{ℕ, ◌≡◌, ◌≤◌, ◌<◌, ◌+◌, ◌^◌, ◌+ℤ◌, Some, length};
 ghost use Rattle.roster_model.specs.declared.grammar.Rule.{Rule as RuleValue};
 ghost use Rattle.roster_model.specs.Grammar.{rule_at, InDay, Stands};

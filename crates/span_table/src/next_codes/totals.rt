@@ -1,3 +1,5 @@
+//! The totals.
+
 ghost use Rattle.std.specs.Prelude.{◌≡◌, IfOk, length};
 ghost use Rattle.roster_model.specs.Sound.{IsSound};
 ghost use Rattle.span_cells.specs.Cells.{IsLayoutOf};

@@ -1,3 +1,5 @@
+//! Rules at no cost.
+
 ghost use Rattle.std.specs.Prelude.{[], ◌∷◌, IfOk};
 ghost use Rattle.roster_model.specs.Sound.{IsPlain, IsSound};
 ghost use Rattle.answers.specs.Reader.{IsReader};

@@ -1,3 +1,5 @@
+//! A roster text and its first bytes, up to one above the limit, are read alike.
+
 ghost use Rattle.std.specs.Prelude.{◌≡◌, ℕ, List};
 ghost use Rattle.roster_model.specs.declared.instance.Instance.{Instance};
 ghost use Rattle.roster_value.specs.stated_rosters.RosterOf.{roster_of};

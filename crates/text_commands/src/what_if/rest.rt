@@ -1,3 +1,5 @@
+//! What remains beside kept shifts.
+
 ghost use Rattle.std.specs.Prelude.{[], ◌∷◌, IfOk};
 ghost use Rattle.roster_value.specs.remaining_day.Answers.{IsRemaining, RestAnswer};
 ghost use Rattle.roster_model.specs.SoundInstance.{IsSoundInstance};

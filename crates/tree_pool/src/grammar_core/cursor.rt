@@ -1,3 +1,5 @@
+//! A cursor over a slice.
+
 ghost use Rattle.std.specs.Prelude.{◌≡◌, [], ◌∷◌, List as Items, MatchOption};
 
 use std::marker::Model;

@@ -1,3 +1,5 @@
+//! The laws.
+
 ghost use Rattle.tree_pool.specs.grammar_core.Lists.{StepsTellTree, ArcsTellTree, ListsTellOneTree};
 
 /// Two trees of a name on a span with the same steps are one tree.

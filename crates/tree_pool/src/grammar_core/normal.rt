@@ -1,3 +1,5 @@
+//! The normal form.
+
 ghost use Rattle.std.specs.Prelude.{IfOk};
 ghost use Rattle.roster_model.specs.Sound.{IsSound};
 ghost use Rattle.tree_pool.specs.grammar_core.Items.{IsNormal};

@@ -1,3 +1,5 @@
+//! The order of the names.
+
 ghost use Rattle.std.specs.Prelude.{ℕ, ◌≡◌, ◌<◌, ◌≤◌, [], length, slice_index, IfOk, OnOk};
 ghost use Rattle.roster_model.specs.Sound.{IsSound};
 ghost use Rattle.tree_pool.specs.grammar_core.Items.{IsOrder};

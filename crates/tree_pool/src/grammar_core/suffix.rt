@@ -1,3 +1,5 @@
+//! A suffix of a rule on a span, and its arcs.
+
 ghost use Rattle.std.specs.Prelude.{◌≡◌, ◌+◌, ◌-◌, ◌<◌, ◌≤◌};
 ghost use Rattle.tree_pool.specs.grammar_core.Walks.{has_arc as has_own_arc};
 

@@ -1,3 +1,5 @@
+//! From steps to arcs.
+
 ghost use Rattle.std.specs.Prelude.{◌≡◌, ◌++◌, IfOk, OnOk};
 ghost use Rattle.roster_model.specs.Arcs.{arcs as arcs_of, parts_arcs};
 ghost use Rattle.roster_model.specs.Sound.{IsSound};

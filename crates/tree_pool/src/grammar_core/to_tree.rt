@@ -1,3 +1,5 @@
+//! From arcs to steps.
+
 ghost use Rattle.std.specs.Prelude.{◌≡◌, ◌∷◌, List as Items, true, false, IfOk, OnOk};
 ghost use Rattle.roster_model.specs.declared.grammar.ArcKey.{ArcKey as Key};
 ghost use Rattle.roster_model.specs.Arcs.{arcs as arcs_of, parts_arcs};
