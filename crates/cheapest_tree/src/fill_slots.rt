@@ -1,4 +1,8 @@
 //! Which pass fills the slots: one in 64 bits or one in 128.
+//!
+//! Which pass: in 64 bits where prices are within 2^43 and sums within 2^59, else in 128 bits; there the arcs
+//! are asked for one by one where listed prices of one arc add up beyond 2^96 on the way, or more are listed
+//! than there are arcs.
 
 ghost use Rattle.std.specs.Prelude.{◌≡◌, ◌+◌, ◌^◌, IsTrue, Option, length};
 ghost use Rattle.roster_model.specs.declared.grammar.Grammar.{Grammar as Rules};

@@ -1,4 +1,6 @@
 //! Certificates that are judged whole and piece by piece, with the same answer.
+//!
+//! A bound that stands for none, as a number; a text without its end; a chain of 10,000 splits.
 
 ghost use Rattle.std.specs.Prelude.{◌≡◌, ◌≤◌, length};
 ghost use Rattle.roster_model.specs.SoundInstance.{IsSoundInstance};

@@ -1,4 +1,7 @@
 //! Transcripts of `explain`, `rank`, `next` and `fits`.
+//!
+//! `explain`, `rank`, `next` and `fits`: derivations and why a word has none, ranked trees (1,000 of one
+//! word), codes that may follow, shifts that fit, a name to begin at.
 
 use crate::shelves::{answer, shelf_of};
 use crate::transcripts::have_answers;

@@ -1,4 +1,7 @@
 //! Transcripts of `check` and `reuse`, with each cause for which a certificate is refused.
+//!
+//! `check` and `reuse`: certificates, accepted and with each cause for which one is refused; texts that are
+//! refused before; a certificate cut to each length.
 
 use crate::shelves::{answer, shelf_of};
 use crate::transcripts::have_answers;

@@ -1,4 +1,9 @@
 //! Each call of each command where it is refused: what is said, noted and stored then.
+//!
+//! For each form of the commands and each call of it what is said, what is noted and what the stored names
+//! hold where that call is refused, and where a call is that is never made; the whole report of `solve` and
+//! `make` where the store is refused, and half of it where the say behind it is too; a text that is no
+//! certificate stands; a refused text comes first; texts of the most bytes, and longer ones.
 
 use crate::shelves::{Outcome, STORED, end_alike, run_on, shelf_of};
 use crate::transcripts::have_answers;

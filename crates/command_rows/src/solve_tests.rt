@@ -1,4 +1,8 @@
 //! Transcripts of `solve`, `curve` and `make`.
+//!
+//! `solve`, `curve` and `make`: reports by status, an old certificate, groups, a day with more trees than any
+//! list could hold; curves by status; the same words twice, and seconds counted as turns; stored certificates
+//! that are checked; the shifts of a report, each explained at its price.
 
 use crate::shelves::{Outcome, answer, end_alike, is_said, run_on, shelf_of};
 use crate::transcripts::have_answers;

@@ -1,4 +1,7 @@
 //! Transcripts of `value`, `rest`, `relax-rules` and `relax-demand`.
+//!
+//! `value`, `rest`, `relax-rules` and `relax-demand`: what stated rosters and a report come to, kept shifts
+//! and the demand that they leave, and causes; rules at no cost, days whose floors or ceilings are counted.
 
 use crate::transcripts::have_answers;
 use std::test::Fail;

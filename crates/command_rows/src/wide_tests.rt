@@ -1,4 +1,7 @@
 //! A turn on a day whose root has an exact path with numbers above 2^56.
+//!
+//! One turn on a day whose root has an exact path with numbers above 2^56 leaves no node without prices, and
+//! a bound above 0.
 
 use crate::shelves::{answer, is_said, shelf_of};
 use shelf::MemoryShelf;

@@ -1,4 +1,7 @@
 //! The small grammars, with contracts that tie them to `sample_days`.
+//!
+//! The small grammars (one block with rest around it; three words), with contracts that tie them to
+//! `sample_days`.
 
 ghost use Rattle.std.specs.Prelude.{◌≡◌, IfOk};
 ghost use Rattle.roster_model.specs.Sound.{IsSound};

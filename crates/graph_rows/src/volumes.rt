@@ -1,4 +1,8 @@
 //! Bounds by the volume algorithm on a day of pairs, against the least costs of its master.
+//!
+//! Bounds by the volume algorithm (`node_columns::volume`) on a day of pairs, against the least costs of its
+//! master: at the root and under a cut and its opposite, and from the prices found; and the two cheapest
+//! trees in a pool.
 
 ghost use Rattle.std.specs.Prelude.{◌≤◌, IfOk, length};
 ghost use Rattle.roster_model.specs.Folds.{Each};

@@ -1,4 +1,8 @@
 //! The page of a day of four periods as one whole text, and parts of others.
+//!
+//! The page of a day of four periods as one whole text; parts of others: a call centre's shift under a floor
+//! and a ceiling, 96 periods, no roster, labels, groups, times of whole hours and of a night, a name with
+//! time off and decimals beside an old roster, 64 employees with one row; tables and a calendar.
 
 use crate::transcripts::{answer, has_answer, have_answers, shelf_of};
 use shelf::MemoryShelf;

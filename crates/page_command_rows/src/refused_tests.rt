@@ -1,4 +1,7 @@
 //! Each call of each form where it is refused, and words and texts that are refused.
+//!
+//! For each form of the words and each call of it what is said and noted where that call is refused; words
+//! and texts that are refused, by status; what is noted to no words.
 
 use crate::transcripts::{answer, have_answers, shelf_of};
 use shelf::MemoryShelf;

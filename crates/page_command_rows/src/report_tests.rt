@@ -1,4 +1,6 @@
 //! Reports in place of certificates, and old rosters beside which a page is shown.
+//!
+//! What is said of them, and why they are refused.
 
 use crate::transcripts::have_answers;
 use std::test::Fail;

@@ -1,4 +1,7 @@
 //! Tables of coverage, tables with names and decimals, and calendars of one shift.
+//!
+//! Tables of coverage, tables with names and decimals, names that stand at another shift, calendars of one
+//! shift.
 
 use crate::transcripts::{answer, have_answers, shelf_of};
 use std::alloc::Global;

@@ -38,6 +38,7 @@ cut_from last begin place width (b ∷ bs) =
     if nat_lt 24 (width + columns_of last b) then begin_of begin place b
     else cut_from b (begin_of begin place b) (place + 1) (width + columns_of last b) bs
 
+-- where a name is cut
 abbrev pub cut_of : List ℕ → ℕ
 cut_of bytes = cut_from 0 0 0 0 bytes
 

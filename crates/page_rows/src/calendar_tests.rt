@@ -1,4 +1,8 @@
 //! Calendars with folded and escaped lines, equal shifts and time off; dates.
+//!
+//! A calendar with folded and escaped lines and two equal shifts, one of shifts that stayed under other
+//! labels, one of a day without work, one with time off, a name and a fold before a character of two bytes,
+//! one of a single shift; dates.
 
 ghost use Rattle.std.specs.Prelude.{◌≤◌, ◌↔◌, All, IsTrue, length};
 ghost use Rattle.roster_model.specs.SoundInstance.{IsSoundInstance};

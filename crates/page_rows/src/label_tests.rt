@@ -1,4 +1,7 @@
 //! Labels texts with each kind of line, and refused ones; times and durations.
+//!
+//! Labels texts with each kind of line, also in UTF-8; refused ones, with bytes that are no UTF-8; names that
+//! do not stand at a roster's shifts; times and durations.
 
 ghost use Rattle.roster_model.specs.SoundInstance.{IsSoundInstance};
 

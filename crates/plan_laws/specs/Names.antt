@@ -248,6 +248,7 @@ change_in p [] = p.change
 change_in p (a ∷ []) = None
 change_in p (a ∷ b ∷ s) = p.change
 
+-- the rules of each name
 abbrev pub rules_for : PeriodPlan → Free → Kind → List (NamedRule Kind)
 rules_for p free (at r a) = map (at_rule p a) (spells_of p r a)
 rules_for p free (run r a) = plain 0 (named (at r a) ∷ [])

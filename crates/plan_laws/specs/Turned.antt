@@ -97,6 +97,7 @@ abbrev pub turned_part : Plan → Part → PeriodPart
 turned_part p (Work codes) = Working (chosen (has_code codes) (turned_codes p))
 turned_part p (Pause code times) = Pausing (coded (turned_codes p) code) (turned_pause p times)
 
+-- a duty line in numbers of periods
 abbrev pub turned_duty : Plan → Duty → PeriodDuty
 turned_duty p d = record {
   length = turned_lengths p d.lasts;

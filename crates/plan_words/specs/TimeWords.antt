@@ -51,6 +51,7 @@ begin_or d (Some t) =
     if nat_le (day_length d) (begin_behind d t) then Err (outside_day d)
     else (if not (nat_eq (begin_behind d t % d.minutes) 0) then Err (NoBegin d.minutes (begin_minute d)) else Ok t)
 
+-- the time that a word says, at which a period of the day begins
 unfoldable pub begin_at : PlanDay → List ℕ → Result Time WordFault
 begin_at d w = begin_or d (time_at w)
 
@@ -61,5 +62,6 @@ end_or d (Some t) =
     if nat_lt (day_length d) (end_behind d t) then Err (outside_day d)
     else (if not (nat_eq (end_behind d t % d.minutes) 0) then Err (NoBegin d.minutes (begin_minute d)) else Ok t)
 
+-- the time that a word says, at which a period of the day ends
 unfoldable pub end_at : PlanDay → List ℕ → Result Time WordFault
 end_at d w = end_or d (time_at w)

@@ -32,6 +32,7 @@ pub record AreCauses (i : Instance) (shifts : List Shift) (causes : List Cause) 
   pub some : causes ≢ []
   pub never : (amount : ℕ) → Costs i (duties shifts) amount → ⊥
 
+-- what a stated roster comes to
 abbrev pub IsJudged : Instance → List Shift → Judged → Type 0
 IsJudged i shifts (Allowed v) = IsValued i shifts v
 IsJudged i shifts (Refused causes) = AreCauses i shifts causes

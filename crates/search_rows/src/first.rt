@@ -1,4 +1,7 @@
 //! Which end a master has that goes one way to prices first.
+//!
+//! Near prices and weights of a half at the root of pairs, near weights of two thirds that keep ceilings, and
+//! exact prices where the exact path comes first.
 
 ghost use Rattle.std.specs.Prelude.{[], true, IfOk};
 ghost use Rattle.roster_model.specs.SoundInstance.{IsSoundInstance};

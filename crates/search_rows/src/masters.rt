@@ -1,4 +1,7 @@
 //! Values, prices, weights and refusals of masters on a day of pairs.
+//!
+//! Values, prices, weights and refusals of masters (`node_master`): at the root of a day of pairs, under a
+//! cut on an arc and its opposite, with too many rows, and over more trees than any list could hold.
 
 ghost use Rattle.std.specs.Prelude.{◌<◌, ◌^◌, All, IsTrue, IfOk, length};
 ghost use Rattle.roster_model.specs.Folds.{Each};

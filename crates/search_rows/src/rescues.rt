@@ -1,4 +1,7 @@
 //! Near prices by hunts that are lost, and go on carefully.
+//!
+//! The same near prices by hunts whose rounds have one to five steps of each kind: they are lost, some at
+//! once and some later, and go on carefully (`search_columns`).
 
 ghost use Rattle.roster_model.specs.SoundInstance.{IsSoundInstance};
 ghost use Rattle.parse_graph.specs.Graphs.{IsGraph};

@@ -1,4 +1,7 @@
 //! The arc to split on that near weights of a half point to.
+//!
+//! The arc that near weights of a half point to (`arc_weights`): each arc of the graph where it is preferred,
+//! and else one of the longest; and one that is farthest from a whole number.
 
 ghost use Rattle.std.specs.Prelude.{[], IfOk};
 ghost use Rattle.roster_model.specs.SoundInstance.{IsSoundInstance};

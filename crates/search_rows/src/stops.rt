@@ -1,4 +1,7 @@
 //! Masters that are stopped at each question of their watch in turn.
+//!
+//! (`watches`), either way to prices, and at some of many rows, where a hunt begins with passes: fewer than
+//! 100 further questions follow, the first question stops it, and a watch that is never over stops none.
 
 ghost use Rattle.std.specs.Prelude.{◌<◌, ◌^◌, length};
 ghost use Rattle.roster_model.specs.Folds.{Each};

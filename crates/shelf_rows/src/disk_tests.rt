@@ -1,4 +1,7 @@
 //! What the disk does with first lines, links, modes, new files and names.
+//!
+//! What the disk does with first lines, links, modes, new files that stand, and names beside which none can
+//! be made.
 
 use crate::shelf_tests::STORED_OVER;
 use shelf::{DiskShelf, Shelf, ShelfFault};

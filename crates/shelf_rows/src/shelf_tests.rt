@@ -1,4 +1,7 @@
 //! What the disk and both shelves in memory answer with ample memory.
+//!
+//! Also where a text is no certificate, and where it is longer than what is asked; readers and writers that
+//! are interrupted, and one that takes nothing.
 
 use shelf::{DiskShelf, MemoryShelf, QuietShelf, Shelf, ShelfFault, read_bytes, write_bytes};
 use std::alloc::Global;

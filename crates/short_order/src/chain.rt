@@ -1,4 +1,7 @@
 //! The arcs in an order in which each stands behind those that make what it uses.
+//!
+//! The arcs with the slots of what is below them, those that make a node side by side, in an order in which
+//! each stands behind those that make what it uses.
 
 use parse_graph::{Graph, Kid};
 use roster_model::{ArcKey, Memory};

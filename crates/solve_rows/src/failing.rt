@@ -1,4 +1,9 @@
 //! `FailingMaster`, a master that fails for want of pivots at the calls that it is told.
+//!
+//! `FailingMaster`, a master that fails for want of pivots with none made (`failure`) at every call of
+//! `node`, or at the calls of listed numbers (`fails_at`), on nodes of at most 1,500 rows; at each other call
+//! it answers as strictly as the plain one, which it asks; strict exactly where it never fails of its own.
+//! That it meets the contract of `Master` is proved.
 
 ghost use Rattle.std.specs.Prelude.{◌≡◌, IsTrue, true};
 ghost use Rattle.node_master.specs.Refusals.{counted};

@@ -1,4 +1,7 @@
 //! How a search ends, what it costs, its bound, and how many nodes it took.
+//!
+//! How a search ends, what it costs, the bound, how many nodes were processed and how many were split without
+//! prices.
 
 ghost use Rattle.std.specs.Prelude.{◌≤◌, IfOk};
 ghost use Rattle.roster_model.specs.Sound.{IsSound};

@@ -1,4 +1,8 @@
 //! Searches that a watch stops at each question in turn.
+//!
+//! Searches that a watch stops at each question: fewer than 100 follow, no more nodes are processed than by
+//! the whole search, and its bound is not passed; a root that is stopped once prices were asked at keeps
+//! some.
 
 ghost use Rattle.std.specs.Prelude.{◌≤◌};
 ghost use Rattle.roster_model.specs.SoundInstance.{IsSoundInstance};

@@ -1,4 +1,7 @@
 //! Three shifts by careful runs, also step by step.
+//!
+//! The same three shifts by careful runs, also step by step; 2 where the first period may be left out for
+//! nothing, and 3 again where it may not; and a run whose watch is over, which takes no step.
 
 use crate::scouts::{LIMITS, costs_three, costs_three_from_each, is_about, three_shifts};
 use crate::watches::OverWatch;

@@ -1,4 +1,7 @@
 //! Sums, products, row steps and quotients, exact or refused.
+//!
+//! A sum, a product that is too wide, two fractions whose cross products are wide, and a row step and a
+//! quotient that are refused and counted.
 
 use fraction::{Frac, Tally, TooWide, add, compare, div, mul, row_step, scaled, sub};
 use std::cmp::Ordering;

@@ -1,4 +1,6 @@
 //! A program of three rows whose columns are all listed, and what `Columns` asks of it.
+//!
+//! . `price_out` names the first column of negative reduced cost (`reduced`).
 
 ghost use Rattle.std.specs.Prelude.{◌≡◌, IfOk};
 ghost use Rattle.fraction.specs.pivot_rows.Columns.{IsColumn, number_in};

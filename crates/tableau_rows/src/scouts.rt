@@ -1,4 +1,12 @@
 //! Scouts over three shifts, over four by thirds, and over nested rows that grow.
+//!
+//! Three shifts over three periods, two periods each: half of each costs 3, from either start, with the right
+//! sides perturbed and settled, and from a start with a column twice, with one that is not listed and with
+//! one that the program does not have; 4 where the first shift is cut off, or asked for. Four shifts of three
+//! of four periods by thirds: values, prices and products with the inverse, and the same with tighter
+//! tolerances. A price at the true cost of what is missing. 40 nested rows in which each column takes 1 from
+//! all later rows, so that the values double from row to row: as a start it grew, and a run from another
+//! start grew too.
 
 ghost use Rattle.std.specs.Prelude.{◌≡◌};
 ghost use Rattle.scout.specs.Sizes.{row_count};

@@ -1,4 +1,7 @@
 //! Whether a program is sound: unit columns first, nothing negative.
+//!
+//! That the first columns are those of the units, and that no right side and no cost is negative, is tried
+//! before each call.
 
 ghost use Rattle.std.specs.Prelude.{◌≡◌, ◌<◌, pos, ◌≤ℤ◌, All};
 ghost use Rattle.std.specs.Bool.{OnTrue};

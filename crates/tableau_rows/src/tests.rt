@@ -1,4 +1,9 @@
 //! Tables of programs with their values, prices and weights, or why they are given up.
+//!
+//! Three tables of programs with their values, prices, basic columns and weights, or why they are given up:
+//! pairs of rows, also with right sides of 0 and equal ratios; budgets of 0 and 2 pivots; entries above 1
+//! with costs above 2^39, and a value above 2^56 at the start; the count that rises with a refusal; and pairs
+//! that are to stop, at once or before the turn that would be their last.
 
 ghost use Rattle.std.specs.Prelude.{◌≡◌};
 

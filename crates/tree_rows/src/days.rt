@@ -1,4 +1,7 @@
 //! The made day of 7, and what a roster of one period costs at most.
+//!
+//! The made day of 7, whose needs were computed elsewhere from the generator's rule; what a roster of one
+//! period costs at most.
 
 use made_days::make_instance;
 use roster_model::{Cell, Grammar, Instance, greatest_cost};

@@ -41,6 +41,7 @@ points_of c = point_count c.staff c.day
 abbrev pub point_heads : CurveView → ℕ
 point_heads c = first_heads c.staff c.day + (c.given - 1)
 
+-- the day of the point given last
 abbrev pub point_day : CurveView → Instance
 point_day c = with_heads c.staff c.day (point_heads c)
 

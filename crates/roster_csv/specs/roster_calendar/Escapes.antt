@@ -10,6 +10,7 @@ is_escaped b = nat_eq b 92 || nat_eq b 59 || nat_eq b 44
 unfoldable pub escaped_byte : ℕ → List ℕ
 escaped_byte b = if nat_eq b 10 then 92 ∷ 110 ∷ [] else (if is_escaped b then 92 ∷ b ∷ [] else b ∷ [])
 
+-- a value of text, in which a backslash stands before `\`, `;` and `,`, and a line feed is `\n`
 abbrev pub escaped : List ℕ → List ℕ
 escaped value = flat_map escaped_byte value
 

@@ -66,6 +66,7 @@ pub record IsImpossible (i : Instance) (kept : List Shift) (causes : List Cause)
   pub some : causes ≢ []
   pub never : NoRosterHas i (duties kept)
 
+-- what remains of a day, or why nothing does
 abbrev pub IsRemaining : Instance → List Shift → Remaining → Type 0
 IsRemaining i kept (Day rest) = IsRest i kept rest
 IsRemaining i kept Nobody = IsNobody i kept

@@ -25,6 +25,7 @@ abbrev pub named_words : List (List ℕ) → Option ShiftLine
 named_words [] = None
 named_words (name ∷ ws) = letters_words (Some name) ws
 
+-- a shift's line: with groups a name of one, a word, and a number that counts for nothing
 unfoldable pub shift_words : List Group → List (List ℕ) → Option ShiftLine
 shift_words [] ws = letters_words None ws
 shift_words (g ∷ gs) ws = named_words ws
