@@ -26,6 +26,25 @@
 //! step touches the kernel's rows whose entry in the entering column is not 0. After 500 pivots the inverse
 //! is made anew, and at the end of a turn values and prices are worked out from it again if there were more
 //! than 50.
+//!
+//! `run` asks a watch (`search_watch`) before each eighth step; where it is over, the run ends as if its
+//! steps were taken.
+//!
+//! `set_tolerances` sets what further runs take for 0 (`Tolerances`: of reduced costs, and of values with the
+//! slack of a primal step's ratio test). The slack of a dual step's ratio test, 2^-6, stays.
+//!
+//! | what | type | bound | tolerance |
+//! |---|---|---|---|
+//! | values | `Value64`, answered as `Q32` in units of 2^-32 | 2^19 | 2^-17, unless set |
+//! | prices and reduced costs | `Price64`, answered as `Q24` in units of 2^-24 | 2^27 | 2^-11, unless set |
+//! | reference weights | `Weight64` | 2^32 | |
+//! | pivots | `Entry64` | | at least 2^-10; in a careful run others than below 0.02 come first |
+//!
+//! The bounds of entries and of the inverse's numbers stand in float_basis. A number beyond its bound, or
+//! what is no number, ends the run; the inverse is made anew from its basis once, and then it has grown; a
+//! careful run makes it anew up to three times, from those columns whose pivots are more than 2^-8, 2^-6 and
+//! 2^-4. So no price moves by more than 2^47 in a pivot, and no float is ever infinite. A cost that stands
+//! for "never" is best 2^17, since a greater one drowns the rest.
 #![tactic(auto)]
 
 mod bounds;
