@@ -1,5 +1,5 @@
-use crate::start::Start;
 use master_rows::Day;
+use search_primal::Start;
 
 /// A day that is to be searched.
 #[derive(Clone, Copy, Drop)]
