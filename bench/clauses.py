@@ -11,7 +11,7 @@ sys.dont_write_bytecode = True
 from readme_order import CRATES, called_crates, is_of_rows
 
 SEARCH = ["arc_counts", "node_columns", "search_columns", "node_master", "candidate_rosters", "roster_moves", "dives", "split_probes",
-          "arc_weights", "branch_price", "day_solver"]
+          "arc_weights", "search_primal", "branch_price", "day_solver"]
 MOST = 7
 FUNCTION = re.compile(r"\s*(?:pub(?:\([\w:]+\))? )?(?:const )?fn (\w+)")
 

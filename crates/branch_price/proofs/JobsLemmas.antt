@@ -3,13 +3,13 @@ use Rattle.std.proofs.Common.{ℕ, ◌≤◌, Bool}
 use Rattle.std.specs.Prelude.{Result, Ok, Err, IfOk}
 use Rattle.roster_model.specs.SoundInstance.{IsSoundInstance}
 use Rattle.search_watch.proofs.WithinLemmas.{within-all}
+use Rattle.search_primal.specs.declared.job.Job.{Job}
+use Rattle.search_primal.specs.Jobs.{IsJob}
 use Rattle.branch_price.specs.declared.found.Found.{Found}
-use Rattle.branch_price.specs.declared.job.Job.{Job}
 use Rattle.branch_price.specs.declared.task.SearchTask.{SearchTask}
 use Rattle.branch_price.specs.Found.{IsFound, IsFoundAtRoot}
-use Rattle.branch_price.specs.Jobs.{IsJob, IsJobDone, task_of}
-use Rattle.branch_price.specs.Tasks.{IsTaskDone}
-use Rattle.branch_price.proofs.OldLemmas.{found-no-dearer}
+use Rattle.branch_price.specs.Tasks.{IsJobDone, task_of, IsTaskDone}
+use Rattle.branch_price.proofs.NoDearer.{found-no-dearer}
 
 -- what is found at the root is found for each task
 pub root-task : (t : SearchTask) → IsSoundInstance t.day.instance.now → 1 ≤ t.turns → (patient strict : Bool) (now : ℕ) (f : Found) → IsFoundAtRoot t.day.instance.now f → IsTaskDone t patient strict now now f

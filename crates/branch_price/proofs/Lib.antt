@@ -11,12 +11,11 @@ pub mod FoundLemmas
 pub mod HaltedRoots
 pub mod PlainPrices
 pub mod OneNode
-pub mod OldLemmas
+pub mod NoDearer
 pub mod EndedLeaves
 pub mod EndsLemmas
 pub mod ShownLimit
 pub mod LoopsLemmas
-pub mod BetterRosters
+pub mod LaterPlans
 pub mod RootLemmas
-pub mod ToolsLemmas
 pub mod JobsLemmas

@@ -22,6 +22,7 @@ use Rattle.search_tree.proofs.TreeLaws.{queued-leaf}
 use Rattle.candidate_rosters.specs.declared.roster.Roster.{Roster}
 use Rattle.candidate_rosters.specs.Offers.{limit_of, cost_of}
 use Rattle.candidate_rosters.proofs.Limits.{cost-most, limit-most}
+use Rattle.search_primal.specs.OldRosters.{ReachesOld}
 use Rattle.branch_price.specs.declared.progress.Progress.{Progress}
 use Rattle.branch_price.specs.Searching.{site_of, IsSearching}
 use Rattle.branch_price.specs.declared.turn_end.RootPrices.{RootPrices}
@@ -29,7 +30,6 @@ use Rattle.branch_price.specs.Steps.{AsksTurn, IsTurned, IsStopped, IsStoppedAtR
 use Rattle.branch_price.specs.Ends.{IsNext, AsksEnd, IsEnd, IsEndOf, IsHalted, IsDoneAt, IsClosedBy}
 use Rattle.branch_price.specs.Loops.{IsLooping}
 use Rattle.branch_price.specs.Found.{HasNoArc}
-use Rattle.branch_price.specs.OldRosters.{ReachesOld}
 use Rattle.branch_price.proofs.EndsLemmas.{final-is}
 use Rattle.branch_price.proofs.ShownLimit.{shown-limit}
 

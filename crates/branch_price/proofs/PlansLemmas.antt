@@ -42,9 +42,9 @@ use Rattle.arc_weights.proofs.Steps.{get_some}
 use Rattle.open_nodes.specs.declared.leaf.Plan.{Plan}
 use Rattle.search_tree.specs.Trees.{IsPlan}
 use Rattle.candidate_rosters.specs.Offers.{CanBeTrees, Reach}
-use Rattle.branch_price.specs.declared.solved.Solved.{Solved}
+use Rattle.search_primal.specs.declared.solved.Solved.{Solved}
+use Rattle.search_primal.specs.Solutions.{IsSolvedBy, IsShown}
 use Rattle.branch_price.specs.Plans.{IsPlanAt, IsPlanLeft}
-use Rattle.branch_price.specs.Solutions.{IsSolvedBy, IsShown}
 use Rattle.branch_price.proofs.StepsLemmas.{mid-split, loose-bounds}
 
 -- the weights of the node's solution

@@ -16,9 +16,9 @@ use Rattle.certificates.specs.Sound.{ListNoZero}
 use Rattle.node_master.specs.Ends.{IsNodeCut, AreLawful}
 use Rattle.tree_pool.specs.Pools.{PoolTree}
 use Rattle.certificates.specs.growing_laws.States.{IsPricedNode}
-use Rattle.branch_price.specs.declared.solved.Solved.{Solved}
+use Rattle.search_primal.specs.declared.solved.Solved.{Solved}
+use Rattle.search_primal.specs.Solutions.{IsSolved, IsShown}
 use Rattle.branch_price.specs.Roots.{AreShown}
-use Rattle.branch_price.specs.Solutions.{IsSolved, IsShown}
 use Rattle.branch_price.proofs.Leaves.{AreLeafCuts}
 
 pub small-cuts : (i : Instance) (cuts : List Cut) → AreLeafCuts i cuts → All (λ (c : Cut). c.b ≤ 63) cuts

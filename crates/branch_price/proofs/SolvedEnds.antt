@@ -22,10 +22,10 @@ use Rattle.node_master.specs.declared.ends.Solution.TheVariants.{Exact as is_exa
 use Rattle.node_master.specs.Ends.{IsBest, IsNear, AreLawful}
 use Rattle.node_master.specs.Refusals.{EndsWell, counted}
 use Rattle.search_tree.specs.Trees.{last_count}
-use Rattle.branch_price.specs.declared.solved.Outcome.{Outcome}
-use Rattle.branch_price.specs.declared.solved.Outcome.TheVariants.{Solved as is_solved, Failed as is_failed, Stopped as is_stopped}
-use Rattle.branch_price.specs.declared.solved.Solved.{Solved}
-use Rattle.branch_price.specs.Solutions.{outcome_of, IsSolved}
+use Rattle.search_primal.specs.declared.solved.Outcome.{Outcome}
+use Rattle.search_primal.specs.declared.solved.Outcome.TheVariants.{Solved as is_solved, Failed as is_failed, Stopped as is_stopped}
+use Rattle.search_primal.specs.declared.solved.Solved.{Solved}
+use Rattle.search_primal.specs.Solutions.{outcome_of, IsSolved}
 use Rattle.branch_price.specs.Steps.{IsGivenUp}
 use Rattle.branch_price.proofs.StepsLemmas.{given-up}
 

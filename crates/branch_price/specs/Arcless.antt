@@ -8,8 +8,8 @@ use Rattle.candidate_rosters.specs.declared.roster.Roster.{Roster}
 use Rattle.candidate_rosters.specs.Rosters.{IsGoodRoster}
 use Rattle.candidate_rosters.specs.Starts.{HasStart, StartsWith}
 use Rattle.candidate_rosters.specs.Offers.{limit_of}
+use Rattle.search_primal.specs.Jobs.{IsBusyDay}
 use Rattle.branch_price.specs.Found.{HasNoArc}
-use Rattle.branch_price.specs.Jobs.{IsBusyDay}
 
 -- a sound day that is not plainly infeasible, and of which no tree has an arc
 pub record IsArclessDay (d : Day) : Type 0 where

@@ -8,7 +8,7 @@ use Rattle.tree_pool.specs.Pools.{PoolTree}
 use Rattle.node_master.specs.declared.ends.NodeEnd.{NodeEnd}
 use Rattle.node_master.specs.Ends.{IsNodeCut}
 use Rattle.node_master.specs.Refusals.{EndsWell, counted}
-use Rattle.branch_price.specs.declared.open_node.OpenNode.{OpenNode}
+use Rattle.search_primal.specs.declared.open_node.OpenNode.{OpenNode}
 
 -- a master may be asked at these cuts
 pub record AreNodeCuts (i : Instance) (cuts : List Cut) : Type 0 where

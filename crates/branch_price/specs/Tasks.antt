@@ -4,10 +4,11 @@ use Rattle.roster_model.specs.Folds.{Each}
 use Rattle.certificates.specs.Sound.{IsSoundShift}
 use Rattle.master_rows.specs.search_day.Days.{IsDay}
 use Rattle.search_watch.specs.Within.{IsWithin}
+use Rattle.search_primal.specs.OldRosters.{IsNoDearerThan}
+use Rattle.search_primal.specs.declared.job.Job.{Job}
 use Rattle.branch_price.specs.declared.found.Found.{Found}
 use Rattle.branch_price.specs.declared.task.SearchTask.{SearchTask}
 use Rattle.branch_price.specs.Found.{IsFound, AreCounted}
-use Rattle.branch_price.specs.OldRosters.{IsNoDearerThan}
 
 -- a sound day is to be searched in 1 to 10,000 turns, from at most 64 old shifts, of teams of the day
 pub record IsSearchTask (t : SearchTask) : Type 0 where
@@ -23,3 +24,11 @@ pub record IsTaskDone (t : SearchTask) (patient strict : Bool) (before now : ℕ
   pub found : IsWithin patient t.turns (λ k. IsFound t.day.instance.now strict k f)
   pub falls : IsNoDearerThan t.day.instance.now t.start.shifts.now f.cert.cost
   pub counted : AreCounted t.day.instance.now before now f
+
+-- what is asked by it
+abbrev pub task_of : Job → SearchTask
+task_of j = record { day = j.searched.day; turns = j.turns; start = j.start }
+
+-- what is found for it
+abbrev pub IsJobDone : Job → Bool → Bool → ℕ → ℕ → Found → Type 0
+IsJobDone j = IsTaskDone (task_of j)

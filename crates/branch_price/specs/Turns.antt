@@ -5,7 +5,7 @@ use Rattle.parse_graph.specs.Graphs.{GraphView}
 use Rattle.roster_model.specs.declared.instance.Instance.{Instance}
 use Rattle.master_rows.specs.declared.search_day.day.Day.{Day}
 use Rattle.open_nodes.specs.declared.leaf.OpenLeaf.{OpenLeaf}
-use Rattle.branch_price.specs.declared.open_node.OpenNode.{OpenNode}
+use Rattle.search_primal.specs.declared.open_node.OpenNode.{OpenNode}
 use Rattle.branch_price.specs.declared.progress.Progress.{Progress}
 use Rattle.branch_price.specs.declared.turn_end.TurnEnd.{TurnEnd}
 use Rattle.branch_price.specs.Steps.{AsksTurn, AsksNode, AsksHalf, IsTurned, IsGivenUp, EndsTurn}

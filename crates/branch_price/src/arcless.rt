@@ -2,11 +2,10 @@
 
 ghost use Rattle.std.specs.Prelude.{IfOk};
 ghost use Rattle.master_rows.specs.search_day.Rooms.{Grows};
+ghost use Rattle.search_primal.specs.Desks.{IsRootBench};
 ghost use Rattle.branch_price.specs.Arcless.{IsArclessDay, IsRootRoster};
-ghost use Rattle.branch_price.specs.Desks.{IsRootBench};
 ghost use Rattle.branch_price.specs.Found.{IsFoundAtRoot};
 
-use crate::desk::SearchBench;
 use crate::ended::{closed_end, stated};
 use crate::found::Found;
 use crate::pinned::{offer_least, pinned_value};
@@ -15,6 +14,7 @@ use certificates::{Cert, Node};
 use master_rows::Day;
 use node_master::Pool;
 use roster_model::{List, Memory};
+use search_primal::SearchBench;
 use std::alloc::Global;
 
 /// Returns the roster that the root of a day without arcs leaves: that without shifts, where it is allowed.

@@ -1,14 +1,13 @@
 //! The one place where the master is asked.
 
 ghost use Rattle.std.specs.Prelude.{◌≡◌, IfOk};
+ghost use Rattle.search_primal.specs.Desks.{AreTools, StayTools};
+ghost use Rattle.search_primal.specs.Nodes.{IsOpenNode};
 ghost use Rattle.branch_price.specs.Asking.{AreNodeCuts, EndsAt, IsCounted};
-ghost use Rattle.branch_price.specs.Desks.{AreTools, StayTools};
-ghost use Rattle.branch_price.specs.Nodes.{IsOpenNode};
 
-use crate::desk::SearchDesk;
-use crate::open_node::OpenNode;
 use node_master::{Master, NodeEnd, Pool};
 use roster_model::Memory;
+use search_primal::{OpenNode, SearchDesk};
 use search_watch::Watch;
 use std::alloc::Global;
 

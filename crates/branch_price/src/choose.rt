@@ -3,22 +3,19 @@
 ghost use Rattle.std.specs.Prelude.{◌<◌, IfOk, length};
 ghost use Rattle.arc_counts.specs.count_boxes.Paths.{IsLooseAt};
 ghost use Rattle.arc_weights.specs.Nodes.{IsSolvedNode};
-ghost use Rattle.branch_price.specs.Desks.{CanFind, HasFound};
-ghost use Rattle.branch_price.specs.Nodes.{IsOpenNode, IsPlanFor};
-ghost use Rattle.branch_price.specs.Plans.{IsPlanAt, IsPlanLeft};
-ghost use Rattle.branch_price.specs.Solutions.{IsShown};
+ghost use Rattle.search_primal.specs.Desks.{CanFind, HasFound};
+ghost use Rattle.search_primal.specs.Nodes.{IsOpenNode};
+ghost use Rattle.search_primal.specs.Solutions.{IsShown};
+ghost use Rattle.branch_price.specs.Plans.{IsPlanFor, IsPlanAt, IsPlanLeft};
 
-use crate::desk::SearchDesk;
-use crate::open_node::OpenNode;
 use crate::preferred::preferred_arc;
-use crate::rounded::offer_rounded;
-use crate::solved::Solved;
 use arc_counts::ArcBox;
 use arc_weights::{SolvedNode, Weighed, farthest_from_whole, weigh};
 use candidate_rosters::{Roster, limit, offer_counts};
 use node_master::Pool;
 use open_nodes::Plan;
 use roster_model::Memory;
+use search_primal::{OpenNode, SearchDesk, Solved, offer_rounded};
 use search_watch::{Watch, Work};
 use std::alloc::Global;
 

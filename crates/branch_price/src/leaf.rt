@@ -5,25 +5,19 @@ ghost use Rattle.roster_model.specs.declared.instance.Cut.{Cut as PathCut};
 ghost use Rattle.bound_laws.specs.Pinned.{IsPinned};
 ghost use Rattle.master_rows.specs.search_day.Rooms.{ArePricing, StayPricing};
 ghost use Rattle.node_master.specs.Ends.{AreLawful};
-ghost use Rattle.branch_price.specs.Desks.{AreTools, StayTools, IsBench, StayBench, IsDesk};
-ghost use Rattle.branch_price.specs.Jobs.{IsBusyDay};
-ghost use Rattle.branch_price.specs.Nodes.{IsOpenNode};
+ghost use Rattle.search_primal.specs.Desks.{AreTools, StayTools, IsBench, StayBench, IsDesk};
+ghost use Rattle.search_primal.specs.Jobs.{IsBusyDay};
+ghost use Rattle.search_primal.specs.Nodes.{IsOpenNode};
+ghost use Rattle.search_primal.specs.Solutions.{IsSolved};
 ghost use Rattle.branch_price.specs.Roots.{AreShown};
-ghost use Rattle.branch_price.specs.Solutions.{IsSolved};
 ghost use Rattle.branch_price.specs.Turns.{IsInHand, IsTurnedBelow, IsLeafAt, IsTurnedAt, StopsAt};
 ghost use Rattle.branch_price.specs.Turns.{IsOpenLeafAt, EndsTurnOver, IsGivenUpAt, IsTurnedFailing};
 
 use crate::asking::ask_master;
 use crate::choose::plan_for;
-use crate::completed::{Stage, offer_at_node};
 use crate::counts::arc_at;
-use crate::desk::{SearchBench, SearchDesk, want};
-use crate::first::offer_late;
-use crate::moved::offer_without_prices;
-use crate::open_node::OpenNode;
 use crate::pinned::{offer_least, pinned_value};
 use crate::progress::{Progress, tell_best};
-use crate::solved::{Outcome, Solved, outcome_of};
 use crate::turn_end::{RootPrices, TurnEnd};
 use crate::value::shown_value;
 use candidate_rosters::limit;
@@ -31,6 +25,10 @@ use master_rows::{Day, Pricing};
 use node_master::{Cause, Master, Pool};
 use open_nodes::OpenLeaf;
 use roster_model::{Memory, Prices};
+use search_primal::{
+    OpenNode, Outcome, SearchBench, SearchDesk, Solved, Stage, offer_at_node, offer_late,
+    offer_without_prices, outcome_of, want,
+};
 use search_watch::Watch;
 use std::alloc::Global;
 

@@ -5,17 +5,17 @@ ghost use Rattle.bound_laws.specs.Pinned.{IsPinnedValue};
 ghost use Rattle.arc_counts.specs.node_path.Paths.{IsPath};
 ghost use Rattle.candidate_rosters.specs.Offers.{limit_of};
 ghost use Rattle.master_rows.specs.search_day.Days.{IsDay};
-ghost use Rattle.branch_price.specs.Desks.{CanFind, HasFound};
-ghost use Rattle.branch_price.specs.Jobs.{IsBusyDay};
+ghost use Rattle.search_primal.specs.Desks.{CanFind, HasFound};
+ghost use Rattle.search_primal.specs.Jobs.{IsBusyDay};
 ghost use Rattle.branch_price.specs.Plans.{IsPinnedFor};
 
 use crate::counts::least_counts;
-use crate::desk::SearchDesk;
 use arc_counts::NodePath;
 use candidate_rosters::{Roster, limit, offer_counts};
 use master_rows::Day;
 use node_master::Pool;
 use roster_model::{Memory, greatest_cost};
+use search_primal::SearchDesk;
 use std::alloc::Global;
 
 /// Returns what the counts cost that a path leaves the arcs; where they are those of no allowed roster, one

@@ -1,13 +1,11 @@
 //! The arc that is tried.
 
-ghost use Rattle.branch_price.specs.Nodes.{IsOpenNode, IsSmall};
+ghost use Rattle.search_primal.specs.Nodes.{IsOpenNode, IsSmall};
 
-use crate::desk::SplitHints;
-use crate::open_node::OpenNode;
-use crate::rounded::in_parts;
 use candidate_rosters::{Roster, limit};
 use node_master::{Handover, Pool, Weight};
 use roster_model::{List, Memory};
+use search_primal::{OpenNode, SplitHints, in_parts};
 use search_watch::Watch;
 use split_probes::{Share, SplitNode, best_arc};
 use std::alloc::Global;

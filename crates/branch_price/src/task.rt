@@ -1,7 +1,7 @@
 //! What is asked of a search.
 
-use crate::start::Start;
 use master_rows::Day;
+use search_primal::Start;
 
 /// A day that is to be searched.
 #[derive(Clone, Copy, Drop)]

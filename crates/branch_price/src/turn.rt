@@ -1,21 +1,19 @@
 //! One turn.
 
 ghost use Rattle.std.specs.Prelude.{◌≡◌, ◌≤◌, IfOk, OnOk};
-ghost use Rattle.branch_price.specs.Desks.{StayTools, IsBench, IsPathOf};
-ghost use Rattle.branch_price.specs.Jobs.{IsSearchedDay};
+ghost use Rattle.search_primal.specs.Desks.{StayTools, IsBench, IsPathOf};
+ghost use Rattle.search_primal.specs.Jobs.{IsSearchedDay};
 ghost use Rattle.branch_price.specs.Turns.{IsTaken, IsHalfInHand, IsDue, TakesTurn};
 
 use crate::counts::arc_at;
-use crate::desk::SearchBench;
-use crate::job::SearchedDay;
 use crate::leaf::{pin_leaf, price_leaf};
-use crate::open_node::OpenNode;
 use crate::progress::Progress;
 use crate::turn_end::TurnEnd;
 use node_master::{Master, Pool};
 use open_nodes::OpenLeaf;
 use parse_graph::Graph;
 use roster_model::Memory;
+use search_primal::{OpenNode, SearchBench, SearchedDay};
 use search_watch::Watch;
 use std::alloc::Global;
 

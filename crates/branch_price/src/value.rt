@@ -3,13 +3,13 @@
 ghost use Rattle.std.specs.Prelude.{◌≡◌};
 ghost use Rattle.bound_laws.specs.Priced.{IsPricedValue};
 ghost use Rattle.master_rows.specs.search_day.Rooms.{ArePricing, StayPricing};
-ghost use Rattle.branch_price.specs.Jobs.{IsSearchedDay};
-ghost use Rattle.branch_price.specs.Solutions.{CanShow};
+ghost use Rattle.search_primal.specs.Jobs.{IsSearchedDay};
+ghost use Rattle.search_primal.specs.Solutions.{CanShow};
 
-use crate::job::SearchedDay;
 use check_parts::value_from_least;
 use master_rows::Pricing;
 use roster_model::{Cut, Prices};
+use search_primal::SearchedDay;
 
 /// Returns what prices show at a path of cuts: no roster whose trees meet the cuts costs less.
 pub(crate) fn shown_value(

@@ -1,10 +1,10 @@
 -- What holds of what was found holds of a solution with it.
 use Rattle.std.proofs.Common.{◌≤◌, ℕ, Bool, Result, Ok, Err, IfOk, arith, sym, subst}
 use Rattle.roster_model.specs.declared.memory.Memory.{Memory}
+use Rattle.search_primal.specs.OldRosters.{IsNoDearerThan}
 use Rattle.branch_price.specs.declared.found.Found.{Found}
 use Rattle.branch_price.specs.declared.task.SearchTask.{SearchTask}
 use Rattle.branch_price.specs.Found.{IsFound, AreCounted}
-use Rattle.branch_price.specs.OldRosters.{IsNoDearerThan}
 use Rattle.branch_price.specs.Tasks.{IsTaskDone}
 use Rattle.search_watch.proofs.WithinLemmas.{within-map}
 use Rattle.day_solver.specs.declared.solution.Solution.{Solution}

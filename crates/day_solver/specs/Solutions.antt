@@ -8,10 +8,10 @@ use Rattle.roster_model.specs.arc_laws.Lists.{AreArcs}
 use Rattle.certificates.specs.certificate_laws.Right.{YesIsRight}
 use Rattle.proof_pieces.specs.CertOf.{proof_of}
 use Rattle.certificate_text.specs.Written.{cert_text}
+use Rattle.search_primal.specs.OldRosters.{IsNoDearerThan}
 use Rattle.branch_price.specs.declared.found.Found.{Found}
 use Rattle.branch_price.specs.declared.task.SearchTask.{SearchTask}
 use Rattle.branch_price.specs.Found.{IsFound, AreCounted}
-use Rattle.branch_price.specs.OldRosters.{IsNoDearerThan}
 use Rattle.search_watch.specs.Within.{IsWithin}
 use Rattle.roster_report.specs.declared.report.Report.{Report}
 use Rattle.roster_report.specs.Reports.{IsReport}

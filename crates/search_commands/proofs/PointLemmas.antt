@@ -5,9 +5,9 @@ use Rattle.search_commands.specs.declared.limit.Limit.{Limit}
 use Rattle.search_commands.specs.Limits.{ForLimit}
 use Rattle.roster_model.specs.declared.instance.Instance.{Instance}
 use Rattle.roster_model.specs.declared.instance.Shift.{Shift}
+use Rattle.search_primal.specs.OldRosters.{IsNoDearerThan}
 use Rattle.branch_price.specs.declared.found.Found.{Found}
 use Rattle.branch_price.specs.Found.{AreCounted}
-use Rattle.branch_price.specs.OldRosters.{IsNoDearerThan}
 use Rattle.day_solver.specs.declared.solution.Solution.{Solution}
 use Rattle.day_solver.specs.Solutions.{IsSolution}
 use Rattle.day_solver.specs.declared.day_curve.staff.Staff.{Staff}

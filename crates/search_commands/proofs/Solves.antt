@@ -25,8 +25,8 @@ use Rattle.rules_text.specs.declared.fault.RulesFault.TheVariants as rules_fault
 use Rattle.shelf.specs.Shelf.{Texts, Told}
 use Rattle.parse_graph.specs.declared.fault.GraphFault.{GraphFault}
 use Rattle.parse_graph.specs.Graphs.{IsRefused}
+use Rattle.search_primal.specs.OldRosters.{IsNoDearerThan}
 use Rattle.branch_price.specs.Found.{IsFound, AreCounted}
-use Rattle.branch_price.specs.OldRosters.{IsNoDearerThan}
 use Rattle.day_solver.specs.declared.solution.Solution.{Solution}
 use Rattle.day_solver.specs.Solutions.{IsSolution, IsReportText}
 use Rattle.answers.specs.declared.answer.Answer.{Answer}

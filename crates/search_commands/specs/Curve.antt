@@ -8,9 +8,9 @@ use Rattle.roster_model.specs.declared.grammar.Grammar.{Grammar}
 use Rattle.roster_model.specs.declared.instance.Instance.{Instance}
 use Rattle.roster_model.specs.declared.instance.Shift.{Shift}
 use Rattle.roster_model.specs.Folds.{Each}
-use Rattle.branch_price.specs.declared.found.Found.{Found}
+use Rattle.search_primal.specs.OldRosters.{IsNoDearerThan}
 use Rattle.day_solver.specs.Solutions.{HasArcCount}
-use Rattle.branch_price.specs.OldRosters.{IsNoDearerThan}
+use Rattle.branch_price.specs.declared.found.Found.{Found}
 use Rattle.day_solver.specs.declared.day_curve.staff.Staff.{Staff}
 use Rattle.day_solver.specs.day_curve.Curves.{first_heads, point_count, IsNoDearer}
 use Rattle.day_solver.specs.day_curve.Named.{staff_of}

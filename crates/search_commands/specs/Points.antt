@@ -3,8 +3,8 @@ use Rattle.std.specs.Prelude.{ℕ, ◌≡◌, ◌<◌, ◌+◌, List, [], ◌∷
 use Rattle.search_commands.specs.declared.limit.Limit.{Limit}
 use Rattle.roster_model.specs.declared.instance.Instance.{Instance}
 use Rattle.roster_model.specs.declared.instance.Shift.{Shift}
+use Rattle.search_primal.specs.OldRosters.{IsNoDearerThan}
 use Rattle.branch_price.specs.declared.found.Found.{Found}
-use Rattle.branch_price.specs.OldRosters.{IsNoDearerThan}
 use Rattle.day_solver.specs.declared.day_curve.points.CurvePoint.{CurvePoint}
 use Rattle.day_solver.specs.declared.day_curve.staff.Staff.{Staff}
 use Rattle.day_solver.specs.day_curve.CurveText.{point_of}

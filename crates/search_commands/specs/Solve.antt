@@ -12,9 +12,9 @@ use Rattle.roster_model.specs.declared.instance.Shift.{Shift}
 use Rattle.roster_model.specs.arc_laws.Lists.{AreArcs}
 use Rattle.certificates.specs.declared.cert.Cert.{Cert}
 use Rattle.certificates.specs.certificate_laws.Right.{YesIsRight}
+use Rattle.search_primal.specs.OldRosters.{IsNoDearerThan}
 use Rattle.branch_price.specs.declared.found.Found.{Found}
 use Rattle.branch_price.specs.Found.{IsFound, AreCounted}
-use Rattle.branch_price.specs.OldRosters.{IsNoDearerThan}
 use Rattle.day_solver.specs.Solutions.{HasArcCount, IsReportText}
 use Rattle.proof_pieces.specs.CertOf.{proof_of}
 use Rattle.shelf.specs.Shelf.{Texts}

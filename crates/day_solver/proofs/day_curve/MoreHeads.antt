@@ -10,7 +10,7 @@ use Rattle.roster_model.specs.Teams.{Team, teams, teams_of, teams_from}
 use Rattle.certificates.specs.RosterCauses.{duties}
 use Rattle.certificates.specs.certificate_laws.Right.{YesIsRight}
 use Rattle.certificates.specs.declared.cert.Cert.{Cert}
-use Rattle.branch_price.specs.OldRosters.{IsNoDearerThan}
+use Rattle.search_primal.specs.OldRosters.{IsNoDearerThan}
 use Rattle.day_solver.specs.declared.day_curve.staff.Staff.{Staff}
 use Rattle.day_solver.specs.declared.day_curve.staff.Staff.TheVariants.{Everyone, OneGroup}
 use Rattle.day_solver.specs.day_curve.Curves.{IsClosed, IsNoDearer}

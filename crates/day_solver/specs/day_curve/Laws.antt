@@ -5,7 +5,7 @@ use Rattle.roster_model.specs.Duties.{Duty}
 use Rattle.roster_model.specs.Rosters.{Costs}
 use Rattle.certificates.specs.declared.cert.Cert.{Cert}
 use Rattle.certificates.specs.certificate_laws.Right.{YesIsRight}
-use Rattle.branch_price.specs.OldRosters.{IsNoDearerThan}
+use Rattle.search_primal.specs.OldRosters.{IsNoDearerThan}
 use Rattle.day_solver.specs.declared.day_curve.staff.Staff.{Staff}
 use Rattle.day_solver.specs.day_curve.Curves.{IsClosed, IsNoDearer}
 use Rattle.day_solver.specs.day_curve.Staffs.{IsStaff, with_heads}

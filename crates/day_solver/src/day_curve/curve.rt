@@ -5,8 +5,8 @@ ghost use Rattle.roster_model.specs.Folds.{Each};
 ghost use Rattle.roster_model.specs.SoundInstance.{IsSoundInstance};
 ghost use Rattle.certificates.specs.Sound.{IsSoundShift};
 ghost use Rattle.parse_graph.specs.Graphs.{IsGraph};
+ghost use Rattle.search_primal.specs.OldRosters.{IsNoDearerThan};
 ghost use Rattle.branch_price.specs.Found.{AreCounted};
-ghost use Rattle.branch_price.specs.OldRosters.{IsNoDearerThan};
 ghost use Rattle.day_solver.specs.day_curve.Curves.{
   IsNextPoint,
   first_heads,

@@ -1,8 +1,8 @@
 //! The curve with the day's graph and the texts of its certificates.
 
 ghost use Rattle.std.specs.Prelude.{ℕ, ◌≡◌, ◌≤◌, ◌<◌, ◌+◌, ◌-◌, Bool, IfOk, IfErr};
+ghost use Rattle.search_primal.specs.OldRosters.{IsNoDearerThan};
 ghost use Rattle.branch_price.specs.Found.{AreCounted};
-ghost use Rattle.branch_price.specs.OldRosters.{IsNoDearerThan};
 ghost use Rattle.day_solver.specs.Solutions.{HasArcCount, IsSearched, IsSolution, IsWritten};
 ghost use Rattle.parse_graph.specs.Graphs.{IsRefused};
 ghost use Rattle.day_solver.specs.day_curve.Curves.{new_curve, point_day, point_heads, points_of};

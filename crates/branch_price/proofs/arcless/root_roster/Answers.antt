@@ -2,9 +2,9 @@ use Rattle.std.proofs.Common.{List, sym, subst, ◌∙◌}
 use Rattle.roster_model.specs.declared.instance.Cut.{Cut}
 use Rattle.bound_laws.specs.Pinned.{IsPinned, IsPinnedValue}
 use Rattle.arc_counts.specs.node_path.Paths.{PathView}
+use Rattle.search_primal.proofs.ToolsLemmas.{grows-more}
 use Rattle.branch_price.specs.Plans.{AskForArcs, IsPinnedFor}
 use Rattle.branch_price.proofs.RootLemmas.{root-asks, root-pinned, root-best}
-use Rattle.branch_price.proofs.ToolsLemmas.{grows-more}
 use Rattle.branch_price.proofs.arcless.root_roster.Goals as goal
 
 pub offer_least-requires-clause-pinned : goal.offer_least-requires-clause-pinned

@@ -1,7 +1,7 @@
 use Rattle.std.proofs.Common.{◌∙◌, arith}
-use Rattle.branch_price.proofs.BetterRosters.{better-more}
+use Rattle.search_primal.proofs.BetterRosters.{better-more}
+use Rattle.search_primal.proofs.ToolsLemmas.{grows-more}
 use Rattle.branch_price.proofs.EndsLemmas.{begun-is}
-use Rattle.branch_price.proofs.ToolsLemmas.{grows-more}
 use Rattle.branch_price.proofs.branching.begin.Goals as goal
 
 pub offer_start-requires-clause-find : goal.offer_start-requires-clause-find

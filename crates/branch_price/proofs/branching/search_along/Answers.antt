@@ -1,19 +1,19 @@
 use Rattle.std.proofs.Common.{◌≡◌, ◌≤◌, Option, Some, arith, ◌∙◌, refl, sym, subst}
 use Rattle.candidate_rosters.proofs.PoolNumbers.{grown-more}
+use Rattle.search_primal.specs.OldRosters.{ReachesOld}
+use Rattle.search_primal.proofs.ToolsLemmas.{tools-later}
 use Rattle.branch_price.specs.Ends.{AsksEnd, IsFoundAtEnd, IsFoundHalted}
 use Rattle.branch_price.specs.Turns.{TakesTurn}
-use Rattle.branch_price.specs.declared.turn_end.TurnEnd.{TurnEnd}
-use Rattle.branch_price.specs.Found.{IsFound}
 use Rattle.candidate_rosters.specs.declared.roster.Roster.{Roster}
 use Rattle.candidate_rosters.specs.Offers.{cost_of}
 use Rattle.roster_model.specs.declared.instance.Done.TheVariants.{TurnsOut}
-use Rattle.branch_price.specs.Jobs.{IsJobDone}
+use Rattle.branch_price.specs.declared.turn_end.TurnEnd.{TurnEnd}
+use Rattle.branch_price.specs.Found.{IsFound}
+use Rattle.branch_price.specs.Tasks.{IsJobDone}
 use Rattle.branch_price.specs.Roots.{IsFoundHaltedAtRoot}
-use Rattle.branch_price.specs.OldRosters.{ReachesOld}
 use Rattle.branch_price.proofs.JobsLemmas.{both-ok}
-use Rattle.branch_price.proofs.ToolsLemmas.{tools-later}
 use Rattle.branch_price.proofs.LoopsLemmas.{begun-loops, asks-turn, turn-loops, turn-nears, turn-reaches, turn-halts, turn-halts-at-root, stopped-end, closed-end}
-use Rattle.branch_price.proofs.OldLemmas.{no-dearer}
+use Rattle.branch_price.proofs.NoDearer.{no-dearer}
 use Rattle.search_watch.proofs.WithinLemmas.{within-all}
 use Rattle.branch_price.proofs.branching.search_along.Goals as goal
 

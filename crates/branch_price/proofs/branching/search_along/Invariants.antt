@@ -1,9 +1,9 @@
 use Rattle.std.proofs.Common.{◌≡◌, ◌-◌}
 use Rattle.std.specs.Prelude.{IsTrue}
 use Rattle.tree_pool.specs.Pools.{IsGrown}
-use Rattle.branch_price.specs.Desks.{IsBench}
+use Rattle.search_primal.specs.Desks.{IsBench}
+use Rattle.search_primal.specs.OldRosters.{ReachesOld}
 use Rattle.branch_price.specs.Loops.{IsLooping}
-use Rattle.branch_price.specs.OldRosters.{ReachesOld}
 use Rattle.branch_price.proofs.branching.search_along.Given as goal
 
 abbrev pub invariant-loop-leaf : goal.invariant-loop-leaf

@@ -1,5 +1,5 @@
 use Rattle.std.proofs.lemmas.Result.{IfOk-weaker}
-use Rattle.branch_price.specs.Jobs.{IsJobDone}
+use Rattle.branch_price.specs.Tasks.{IsJobDone}
 use Rattle.branch_price.proofs.JobsLemmas.{at-root}
 use Rattle.branch_price.proofs.RootLemmas.{some-arc, no-arc}
 use Rattle.branch_price.proofs.branching.search_at.Goals as goal

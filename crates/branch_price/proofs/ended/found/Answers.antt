@@ -1,5 +1,5 @@
 use Rattle.branch_price.proofs.FoundLemmas.{is-found, are-counted}
-use Rattle.branch_price.proofs.OldLemmas.{stated-cost}
+use Rattle.branch_price.proofs.NoDearer.{stated-cost}
 use Rattle.branch_price.proofs.ended.found.Goals as goal
 
 pub returns : goal.returns

@@ -1,5 +1,5 @@
 use Rattle.branch_price.proofs.HaltedRoots.{root-is-found}
-use Rattle.branch_price.proofs.OldLemmas.{stated-cost}
+use Rattle.branch_price.proofs.NoDearer.{stated-cost}
 use Rattle.branch_price.proofs.ended.halted_at_root.Goals as goal
 
 pub returns : goal.returns

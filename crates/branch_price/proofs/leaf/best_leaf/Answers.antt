@@ -1,10 +1,11 @@
 use Rattle.std.proofs.Common.{◌∙◌}
 use Rattle.std.proofs.lemmas.Result.{on_ok_weaker}
+use Rattle.search_primal.proofs.BetterRosters.{better-more}
+use Rattle.search_primal.proofs.ToolsLemmas.{find-later, more-tools}
 use Rattle.branch_price.proofs.Leaves.{leaf-cuts}
-use Rattle.branch_price.proofs.BetterRosters.{better-more, plan-later, weights-later}
+use Rattle.branch_price.proofs.LaterPlans.{plan-later, weights-later}
 use Rattle.branch_price.proofs.ShownValues.{small-cuts, few-cuts, is-shown, priced-node}
 use Rattle.branch_price.proofs.StepsLemmas.{asks-priced, turned-by, loose-path}
-use Rattle.branch_price.proofs.ToolsLemmas.{find-later, more-tools}
 use Rattle.branch_price.proofs.leaf.best_leaf.Goals as goal
 
 pub shown_value-value-requires-clause-prices : goal.shown_value-value-requires-clause-prices

@@ -1,7 +1,7 @@
 use Rattle.std.proofs.lemmas.Result.{on_ok_weaker}
-use Rattle.branch_price.proofs.BetterRosters.{better-more}
+use Rattle.search_primal.proofs.BetterRosters.{better-more}
+use Rattle.search_primal.proofs.ToolsLemmas.{tried-tools}
 use Rattle.branch_price.proofs.StepsLemmas.{node-better, better-turned}
-use Rattle.branch_price.proofs.ToolsLemmas.{tried-tools}
 use Rattle.branch_price.proofs.leaf.give_up_leaf.Goals as goal
 
 pub fail_leaf-requires-clause-leaf : goal.fail_leaf-requires-clause-leaf

@@ -1,9 +1,9 @@
 use Rattle.std.proofs.Common.{sym, ◌∙◌}
 use Rattle.std.proofs.lemmas.Result.{IfOk-weaker}
+use Rattle.search_primal.proofs.ToolsLemmas.{tools-later, more-tools}
 use Rattle.branch_price.proofs.Leaves.{leaf-cuts}
 use Rattle.branch_price.proofs.StepsLemmas.{later-node}
 use Rattle.branch_price.proofs.SolvedEnds.{solved-end, failed-end, stopped-end}
-use Rattle.branch_price.proofs.ToolsLemmas.{tools-later, more-tools}
 use Rattle.branch_price.proofs.leaf.price_leaf.Goals as goal
 
 pub ask_master-requires-clause-cuts : goal.ask_master-requires-clause-cuts

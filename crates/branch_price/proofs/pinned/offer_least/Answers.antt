@@ -5,9 +5,9 @@ use Rattle.roster_model.specs.arc_laws.Counts.{counts_cost}
 use Rattle.arc_counts.specs.count_boxes.Boxes.{BoxView}
 use Rattle.candidate_rosters.specs.Offers.{CanBeTrees, Reach, limit_of}
 use Rattle.candidate_rosters.proofs.Limits.{limit-most}
+use Rattle.search_primal.proofs.ToolsLemmas.{same-find}
 use Rattle.branch_price.specs.Plans.{AreLeast}
 use Rattle.branch_price.proofs.PinnedCounts.{pinned-trees, pinned-reach, is-cheap, reached}
-use Rattle.branch_price.proofs.ToolsLemmas.{same-find}
 use Rattle.branch_price.proofs.pinned.offer_least.Goals as goal
 
 pub offer_counts-requires-clause-counts : goal.offer_counts-requires-clause-counts

@@ -1,8 +1,8 @@
 use Rattle.std.proofs.Common.{rules, ◌∙◌}
 use Rattle.std.proofs.lemmas.Result.{IfOk-weaker}
 use Rattle.arc_counts.specs.count_boxes.Paths.{IsBoxOf}
+use Rattle.search_primal.proofs.ToolsLemmas.{same-tools}
 use Rattle.branch_price.proofs.Leaves.{half-node, half-is-node, half-at, half-turned, half-ends}
-use Rattle.branch_price.proofs.ToolsLemmas.{same-tools}
 use Rattle.branch_price.proofs.turn.turn.Goals as goal
 
 pub go_to-requires-clause-node : goal.go_to-requires-clause-node

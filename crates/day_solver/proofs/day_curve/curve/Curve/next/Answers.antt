@@ -2,8 +2,8 @@ use Rattle.std.proofs.Common.{rules, ◌≡◌, ℕ, arith, ◌+◌, ◌-◌, �
 use Rattle.roster_model.specs.declared.instance.Instance.{Instance}
 use Rattle.roster_model.specs.declared.instance.Shift.{Shift}
 use Rattle.roster_model.specs.SoundInstance.{IsSoundInstance}
+use Rattle.search_primal.specs.OldRosters.{IsNoDearerThan}
 use Rattle.branch_price.specs.Found.{IsFound, AreCounted}
-use Rattle.branch_price.specs.OldRosters.{IsNoDearerThan}
 use Rattle.search_watch.specs.Within.{IsWithin}
 use Rattle.std.proofs.Common.{Some}
 use Rattle.tree_pool.specs.Pools.{IsPool}

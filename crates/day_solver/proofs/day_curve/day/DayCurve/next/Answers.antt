@@ -1,8 +1,8 @@
 use Rattle.std.proofs.Common.{ℕ, arith, List, Option, IfOk, IfSome, ap, subst}
+use Rattle.search_primal.specs.OldRosters.{IsNoDearerThan}
 use Rattle.branch_price.specs.declared.found.Found.{Found}
-use Rattle.branch_price.specs.Found.{AreCounted}
 use Rattle.roster_model.specs.declared.instance.Shift.{Shift}
-use Rattle.branch_price.specs.OldRosters.{IsNoDearerThan}
+use Rattle.branch_price.specs.Found.{AreCounted}
 use Rattle.day_solver.specs.day_curve.Curves.{CurveView, point_day, IsNextPoint}
 use Rattle.day_solver.proofs.day_curve.CurvePoints.{counted-point, offered-point, solved-point}
 use Rattle.day_solver.proofs.day_curve.day.DayCurve.next.Goals as goal

@@ -1,5 +1,0 @@
-use Rattle.branch_price.proofs.ToolsLemmas.{same-better}
-use Rattle.branch_price.proofs.first.offer_early.Goals as goal
-
-pub returns-then-has_old : goal.returns-then-has_old
-returns-then-has_old g c = record { desk = c.requires.desk; better = same-better c.args.day.now.instance.now c.args.best.now c.requires.good }

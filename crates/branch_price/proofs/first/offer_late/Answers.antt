@@ -1,5 +1,0 @@
-use Rattle.branch_price.proofs.ToolsLemmas.{same-better}
-use Rattle.branch_price.proofs.first.offer_late.Goals as goal
-
-pub returns-then-processed-gt0 : goal.returns-then-processed-gt0
-returns-then-processed-gt0 g c = record { desk = c.requires.desk; better = same-better c.args.day.now.instance.now c.args.best.now c.requires.good }

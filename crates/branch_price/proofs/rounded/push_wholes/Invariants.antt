@@ -1,7 +1,0 @@
-use Rattle.std.proofs.Common.{ℕ, ◌<◌, All}
-use Rattle.node_columns.specs.declared.weights.Weight.{Weight}
-use Rattle.branch_price.specs.Rounded.{AreFewer}
-use Rattle.branch_price.proofs.rounded.push_wholes.Given as goal
-
-abbrev pub invariant-loop-weight : goal.invariant-loop-weight
-invariant-loop-weight l = (n : ℕ) → All (λ (w : Weight). w.column < n) l.weights → AreFewer n l.fn.columns → AreFewer n l.columns

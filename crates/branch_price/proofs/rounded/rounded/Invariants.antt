@@ -1,7 +1,0 @@
-use Rattle.std.proofs.Common.{ℕ, ◌<◌, All}
-use Rattle.node_columns.specs.declared.weights.Weight.{Weight}
-use Rattle.branch_price.specs.Rounded.{AreFewer}
-use Rattle.branch_price.proofs.rounded.rounded.Given as goal
-
-abbrev pub invariant-loop-step : goal.invariant-loop-step
-invariant-loop-step l = (n : ℕ) → All (λ (w : Weight). w.column < n) l.weights → AreFewer n l.columns

@@ -1,0 +1,3 @@
+pub mod OldLemmas
+pub mod BetterRosters
+pub mod ToolsLemmas

@@ -1,0 +1,6 @@
+pub mod Desks
+pub mod Rounded
+pub mod Solutions
+pub mod OldRosters
+pub mod Jobs
+pub mod Nodes
