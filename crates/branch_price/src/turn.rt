@@ -1,4 +1,4 @@
-//! One turn.
+//! One turn of a search, over one node.
 
 ghost use Rattle.std.specs.Prelude.{◌≡◌, ◌≤◌, IfOk, OnOk};
 ghost use Rattle.branch_price.specs.Desks.{StayTools, IsBench, IsPathOf};
