@@ -1,6 +1,7 @@
 #!/usr/bin/env python3
 """Counts, over the sources of the crates but those of rows, the public functions that return a Result and whose doc
-comment has no `# Errors`, and the functions without a comment; `--list` prints where they stand.
+comment has no `# Errors`, and the functions without a comment; and over all sources the files whose first line is no
+`//!` line. `--list` prints where they stand.
 
 A function is public where it has `pub` or `pub(crate)`, or stands in a public trait; tests need no comment.
 """
@@ -62,18 +63,28 @@ def product_functions():
             yield from (one for one in functions(source) if not one.is_test)
 
 
+def sources_without_head():
+    for source in sorted(CRATES.glob("*/src/**/*.rt")):
+        if not source.read_text().startswith("//! "):
+            yield source.relative_to(CRATES.parent)
+
+
 def main():
     found = list(product_functions())
     results = [one for one in found if one.returns_result]
     without_errors = [one for one in results if not one.has_errors]
     without_comment = [one for one in found if not one.has_comment]
+    without_head = list(sources_without_head())
     if "--list" in sys.argv[1:]:
+        for source in without_head:
+            print(f"{source}: no `//!` line")
         for one in without_errors:
             print(f"{one.place}: {one.name}: no errors")
         for one in without_comment:
             print(f"{one.place}: {one.name}: no comment")
     print(f"{len(without_errors)} of {len(results)} public functions that return a Result have no `# Errors`")
     print(f"{len(without_comment)} of {len(found)} functions have no comment")
+    print(f"{len(without_head)} source files do not begin with a `//!` line")
 
 
 if __name__ == "__main__":

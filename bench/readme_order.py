@@ -1,18 +1,15 @@
 #!/usr/bin/env python3
-"""Checks the order of the crates' READMEs: a title, one paragraph of what the crate is, and then, of these headings
-in this order, those that it has: Use, What a contract sees, Proved, Only tested, Modules.
+"""Checks the order of the crates' READMEs: a title, one paragraph of what the crate is, then Proved and Only tested.
 
-Each crate but those of rows has the last three. Use stands exactly where another crate calls this one, with a few
-lines of a true caller: each of them stands in the file that is named above them, and a line `..` is one left out.
-Modules has a line for each module of the crate. The README of a crate of rows has no heading but its title.
+What a module is, its first line says (`bench/doc_lines.py`); the words of a definition stand in the comment over it.
+The README of a crate of rows has no heading but its title.
 """
 import pathlib
 import re
 import sys
 
 CRATES = pathlib.Path(__file__).resolve().parent.parent / "crates"
-ORDER = ["Use", "What a contract sees", "Proved", "Only tested", "Modules"]
-NEEDED = ["Proved", "Only tested", "Modules"]
+HEADINGS = ["Proved", "Only tested"]
 
 
 def is_of_rows(crate, called):
@@ -40,15 +37,10 @@ def without_ghosts(text):
     return re.sub(r"^\s*(?:ghost use .*|//.*)$", "", text, flags=re.M)
 
 
-def modules(crate):
-    lib = CRATES / crate / "src" / "lib.rt"
-    return set(re.findall(r"^(?:pub )?mod (\w+);", lib.read_text(), re.M)) if lib.exists() else {"main"}
-
-
 def sections(text):
-    """The text before the first heading, and the text below each."""
+    """The text before the first heading, and the headings."""
     parts = re.split(r"^## (.*)$", text, flags=re.M)
-    return parts[0], dict(zip(parts[1::2], parts[2::2])), parts[1::2]
+    return parts[0], parts[1::2]
 
 
 def wrong_start(crate, start, of_rows):
@@ -62,43 +54,13 @@ def wrong_start(crate, start, of_rows):
         yield "more than a paragraph before the first heading"
 
 
-def wrong_snippets(crate, use):
-    found = re.findall(r"From \[\w+\]\(\.\./([\w/.]+)\):\n\n```rust\n(.*?)\n```", use, re.S)
-    if not found:
-        yield "Use has no lines of a caller"
-    for name, lines in found:
-        source = CRATES / name
-        if name.startswith(f"{crate}/") or not source.exists():
-            yield f"{name} is no caller"
-            continue
-        there = {line.strip() for line in source.read_text().splitlines()}
-        yield from (f"not in {name}: {line}" for line in lines.splitlines()
-                    if line.strip() not in there | {"..", ""})
-
-
-def wrong_modules(crate, text):
-    named = re.findall(r"^- `(\w+)`: ", text, re.M)
-    yield from (f"no line on module {name}" for name in sorted(modules(crate) - set(named)))
-    yield from (f"no module {name}" for name in named if name not in modules(crate))
-    if named != sorted(named):
-        yield "the modules are not in order"
-
-
 def wrong_readme(crate, called):
-    start, below, headings = sections((CRATES / crate / "README.md").read_text())
+    start, headings = sections((CRATES / crate / "README.md").read_text())
     of_rows = is_of_rows(crate, called)
     yield from wrong_start(crate, start, of_rows)
-    if of_rows:
-        yield from (f"heading {heading}" for heading in headings)
-        return
-    yield from (f"heading {heading}" for heading in headings if heading not in ORDER)
-    if headings != sorted(headings, key=lambda heading: (ORDER + headings).index(heading)):
-        yield "the headings are not in order"
-    yield from (f"no heading {heading}" for heading in NEEDED if heading not in headings)
-    if (crate in called) != ("Use" in headings):
-        yield "Use stands where no crate calls it" if "Use" in headings else "no heading Use"
-    yield from wrong_snippets(crate, below["Use"]) if "Use" in below else ()
-    yield from wrong_modules(crate, below.get("Modules", ""))
+    wanted = [] if of_rows else HEADINGS
+    if headings != wanted:
+        yield f"headings {', '.join(headings) or 'none'} in place of {', '.join(wanted) or 'none'}"
 
 
 def main():

@@ -1,4 +1,4 @@
-//! How a command ends.
+//! How a command ends: a status, and the text that is said.
 
 use roster_model::List;
 

@@ -1,5 +1,5 @@
-//! What commands share that answer from texts: an answer, how it is said, how a text under a name is fetched, why a
-//! text is refused, and how something is asked of a third text by the day of two others.
+//! What commands share that answer from texts: an answer, how it is said, how a text under a name is fetched,
+//! why a text is refused, and how something is asked of a third text by the day of two others.
 #![tactic(auto)]
 
 mod answer;

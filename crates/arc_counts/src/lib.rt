@@ -1,5 +1,5 @@
-//! Counts of the arcs of a day's graph: the bounds that cuts leave them, the way from the root of a search to a
-//! node, and lists of trees that have given counts.
+//! Counts of the arcs of a day's graph: the bounds that cuts leave them, the way from the root of a search to
+//! a node, and lists of trees that have given counts.
 #![tactic(auto)]
 
 mod count_boxes;

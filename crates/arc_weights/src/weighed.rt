@@ -1,4 +1,4 @@
-//! The answers, and `weigh`.
+//! Weighing a solution: `weigh`, and its answers.
 
 ghost use Rattle.std.specs.Prelude.{IfOk};
 ghost use Rattle.arc_weights.specs.Nodes.{IsSolvedNode, IsWeighedNode};

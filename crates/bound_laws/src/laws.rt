@@ -1,4 +1,4 @@
-//! The laws.
+//! The laws on rosters, trees, prices, cuts and counts.
 
 ghost use Rattle.bound_laws.specs.Laws.{
   LagrangianBound,

@@ -5,8 +5,9 @@
 //! body, and its contract is a law: the Lagrangian bound is the weak duality of the relaxation of
 //! the cells' and cuts' rows, by which a yes to a certificate is sound.
 //!
-//! Beside it stand the linear programs that a search solves: `linear_programs` in general, `master_laws` that of a
-//! node, `near_laws` what any of its solutions says of prices, `least_values` that the values spoken of are there.
+//! Beside it stand the linear programs that a search solves: `linear_programs` in general, `master_laws` that
+//! of a node, `near_laws` what any of its solutions says of prices, `least_values` that the values spoken of
+//! are there.
 #![tactic(auto)]
 
 mod laws;

@@ -1,4 +1,4 @@
-//! The loop.
+//! The loop of a search: one turn after another.
 
 ghost use Rattle.std.specs.Prelude.{◌≡◌, ◌≤◌, IfOk};
 ghost use Rattle.roster_model.specs.SoundInstance.{IsSoundInstance};

@@ -1,4 +1,4 @@
-//! What is found at its end.
+//! What is found at the end of a search.
 
 ghost use Rattle.std.specs.Prelude.{◌≡◌, IfOk};
 ghost use Rattle.roster_model.specs.SoundInstance.{IsSoundInstance};

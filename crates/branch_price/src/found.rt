@@ -1,4 +1,4 @@
-//! The answer.
+//! What a search answers.
 
 use certificates::Cert;
 use roster_model::Done;

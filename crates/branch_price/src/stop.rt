@@ -1,4 +1,4 @@
-//! Where the loop ends.
+//! Where the loop of a search ends.
 
 ghost use Rattle.std.specs.Prelude.{◌≡◌, ◌≢◌, Bool, true, false, IsTrue};
 ghost use Rattle.branch_price.specs.Loops.{MayStop};

@@ -1,4 +1,4 @@
-//! One turn.
+//! One turn of a search, over one node.
 
 ghost use Rattle.std.specs.Prelude.{◌≡◌, ◌≤◌, IfOk, OnOk};
 ghost use Rattle.search_primal.specs.Desks.{StayTools, IsBench, IsPathOf};

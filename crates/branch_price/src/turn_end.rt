@@ -1,4 +1,4 @@
-//! How a turn ended.
+//! How a turn of a search ended.
 
 use open_nodes::OpenLeaf;
 use roster_model::Prices;

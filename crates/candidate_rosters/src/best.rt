@@ -1,4 +1,4 @@
-//! `limit` and `offer`.
+//! The best roster so far: `limit` and `offer`.
 
 ghost use Rattle.std.specs.Prelude.{◌≡◌, ◌≤◌, IfSome};
 ghost use Rattle.roster_model.specs.SoundInstance.{IsSoundInstance};

@@ -1,4 +1,4 @@
-//! `offer_counts`.
+//! A roster from counts of arcs: `offer_counts`.
 
 ghost use Rattle.std.specs.Prelude.{◌≡◌, OnOk, IfOk, IfSome, MatchOption, length};
 ghost use Rattle.roster_model.specs.declared.grammar.Grammar.{Grammar as Rules};

@@ -1,4 +1,4 @@
-//! The two laws.
+//! The two laws on written certificates that are read.
 
 ghost use Rattle.std.specs.Prelude.{◌≡◌, ◌≤◌, ◌↔◌, ℕ, List, Ok, length};
 ghost use Rattle.roster_model.specs.declared.instance.Instance.{Instance};

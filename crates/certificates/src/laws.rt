@@ -1,4 +1,4 @@
-//! The law of one tree.
+//! The law that the nodes of a certificate are those of one tree.
 
 ghost use Rattle.certificates.specs.Laws.{OneTree};
 

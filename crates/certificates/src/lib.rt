@@ -1,5 +1,5 @@
-//! Certificates: a roster, a bound, and a tree of nodes that shows the bound; what they mean, and why a yes to one
-//! is sound.
+//! Certificates: a roster, a bound, and a tree of nodes that shows the bound; what they mean, and why a yes
+//! to one is sound.
 //!
 //! The tree is one of branch and bound: each split cuts the count of one arc in two, as is usual in
 //! branch and price on aggregated flows (Côté, Gendron and Rousseau, Management Science 57, 2011).

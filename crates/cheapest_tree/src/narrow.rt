@@ -1,4 +1,4 @@
-//! Numbers of 64 bits.
+//! Numbers of 64 bits for a pass; they fit nearly all prices.
 
 ghost use Rattle.std.specs.Prelude.{◌≡◌, ◌≤ℤ◌, ◌^◌, IfSome};
 

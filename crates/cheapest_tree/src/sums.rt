@@ -1,4 +1,4 @@
-//! Optional sums.
+//! Sums that may be missing, compared and added.
 
 ghost use Rattle.std.specs.Prelude.{◌≡◌, ◌^◌, IfSome, Some};
 ghost use Rattle.roster_model.specs.Sums.{plus, Within};

@@ -1,4 +1,4 @@
-//! Numbers of 128 bits.
+//! Numbers of 128 bits for a pass.
 
 ghost use Rattle.std.specs.Prelude.{◌≡◌, ◌≤ℤ◌, ◌^◌, IfSome};
 

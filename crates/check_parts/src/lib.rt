@@ -1,5 +1,5 @@
-//! The parts of the checker of certificates: what is wrong with a stated roster, what prices show at a list of
-//! cuts, and what a leaf costs whose counts are pinned.
+//! The parts of the checker of certificates: what is wrong with a stated roster, what prices show at a list
+//! of cuts, and what a leaf costs whose counts are pinned.
 #![tactic(auto)]
 
 pub mod pinned_part;

@@ -1,4 +1,4 @@
-//! That such a chain is one tree.
+//! That a chain of splits is one tree.
 
 ghost use Rattle.std.specs.Prelude.{◌≤◌};
 ghost use Rattle.roster_model.specs.SoundInstance.{IsSoundInstance};

@@ -1,4 +1,4 @@
-//! `run`.
+//! The public call `run`, with an arm for each command.
 
 ghost use Rattle.std.specs.Prelude.{[], map, string_bytes};
 ghost use Rattle.command_line.specs.Form.{form_of};

@@ -1,7 +1,7 @@
 //! Transcripts of what the program answers: cases one after another, each begun by `>`. A case is a line of
-//! words, the lines of a text that the shelf holds under `proof`, each behind a line feed or `; `, behind `<` a
-//! line with the statuses that may come, and what is said. With `..` behind the statuses it is lines that are
-//! said, among others. Behind a line `!` stands what is noted.
+//! words, the lines of a text that the shelf holds under `proof`, each behind a line feed or `; `, behind `<`
+//! a line with the statuses that may come, and what is said. With `..` behind the statuses it is lines that
+//! are said, among others. Behind a line `!` stands what is noted.
 
 use crate::shelves::{Outcome, first_line, is_said, run_on, shelf_of};
 use shelf::MemoryShelf;

@@ -1,5 +1,5 @@
-//! What is answered to questions about the days of a grammar: the first days in order, the codes that may come
-//! next, and the shifts that fit a pattern.
+//! What is answered to questions about the days of a grammar: the first days in order, the codes that may
+//! come next, and the shifts that fit a pattern.
 #![tactic(auto)]
 
 mod cost_prices;

@@ -1,4 +1,4 @@
-//! The answer.
+//! What a day's search answers: what was found, with its text.
 
 use branch_price::Found;
 use roster_model::List;

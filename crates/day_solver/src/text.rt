@@ -1,4 +1,4 @@
-//! The certificate, written.
+//! The text of a certificate that was found.
 
 ghost use Rattle.std.specs.Prelude.{IfOk};
 ghost use Rattle.certificates.specs.Sound.{IsSoundCert};

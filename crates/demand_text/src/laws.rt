@@ -1,4 +1,4 @@
-//! The laws.
+//! The laws on demand texts that are read and written.
 
 ghost use Rattle.std.specs.Prelude.{◌≡◌, ◌≤◌, ◌⊎◌, ◌==◌, ◌∷◌, ◌++◌, ℕ, List, Ok, Err, length, not, true};
 ghost use Rattle.std.specs.List.{list_all};

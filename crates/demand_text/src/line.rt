@@ -1,4 +1,4 @@
-//! One line.
+//! One line of a demand text.
 
 ghost use Rattle.std.specs.Prelude.{◌≡◌};
 ghost use Rattle.roster_model.specs.Sound.{IsSound, IsPlain};

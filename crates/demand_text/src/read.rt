@@ -1,4 +1,4 @@
-//! The whole text.
+//! A demand text, read from its first line to its end.
 
 ghost use Rattle.std.specs.Prelude.{◌≡◌, ◌<◌, ◌^◌, length, IfOk};
 ghost use Rattle.roster_model.specs.Sound.{IsSound, IsPlain};

@@ -1,4 +1,4 @@
-//! Rooms.
+//! The rooms that a dive works in.
 
 ghost use Rattle.std.specs.Prelude.{◌≡◌, IfOk, length};
 ghost use Rattle.master_rows.specs.node_task.Tasks.{IsTask};

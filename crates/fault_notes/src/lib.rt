@@ -1,5 +1,5 @@
-//! What is noted to a person of a text that is refused: the numbers and the place of its fault, sought in the text
-//! when the note is made. Where memory does not suffice there is no note.
+//! What is noted to a person of a text that is refused: the numbers and the place of its fault, sought in the
+//! text when the note is made. Where memory does not suffice there is no note.
 #![tactic(auto)]
 
 mod bytes;

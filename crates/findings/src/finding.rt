@@ -1,4 +1,4 @@
-//! The findings.
+//! The kinds of findings.
 
 /// Which window of a rule.
 #[derive(Clone, Copy, Debug, PartialEq, Eq, Drop)]

@@ -1,5 +1,5 @@
-//! A basis of a linear program in floats of 64 bits: the inverse of its kernel, which is made, solved with and
-//! updated. Each call returns, and beyond its bounds it answers that a number grew.
+//! A basis of a linear program in floats of 64 bits: the inverse of its kernel, which is made, solved with
+//! and updated. Each call returns, and beyond its bounds it answers that a number grew.
 //!
 //! The *kernel*: most rows of a basis have a unit column in it, and are *loose*; the others are *tight*, as
 //! many as there are listed columns in the basis. Only the inverse of the square is kept that these columns

@@ -1,4 +1,4 @@
-//! Columns, listed.
+//! Columns that are listed under numbers.
 
 use crate::state::State;
 use float_basis::{Sign, Standing};

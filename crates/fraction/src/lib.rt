@@ -1,5 +1,5 @@
-//! Exact arithmetic in 128 bits: fractions, row steps of elimination and the tally of refusals; and in 64 bits the
-//! rows of a tableau.
+//! Exact arithmetic in 128 bits: fractions, row steps of elimination and the tally of refusals; and in 64
+//! bits the rows of a tableau.
 //!
 //! A number is in range where it is within 2^127 - 1 in size. Each call answers the exact result, or
 //! refuses with the numbers that it was given.

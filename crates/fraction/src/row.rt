@@ -1,4 +1,4 @@
-//! The row step.
+//! The row step of a tableau in 128 bits.
 
 ghost use Rattle.std.specs.Prelude.{◌≡◌, ℕ, ◌<◌, ◌^◌, pos, max, ◌*ℤ◌, ◌-ℤ◌, ◌<ℤ◌, length, unsigned_abs, IfOk, IfErr};
 ghost use Rattle.std.specs.Int.{◌∣◌, IsGcd};

@@ -1,4 +1,4 @@
-//! `add_matches`.
+//! Counts of a byte in a word, lane by lane: `add_matches`.
 
 ghost use Rattle.std.specs.Prelude.{◌≡◌, ℕ, ◌+◌, ◌-◌, ◌<◌, ◌≤◌, ◌^◌, ◌⊎◌, All, length, slice_index};
 ghost use Rattle.lane_min.specs.Counted.{counted, matched};

@@ -1,4 +1,4 @@
-//! `least_sum`.
+//! The least sum of two lists, lane by lane: `least_sum`.
 
 ghost use Rattle.std.specs.Prelude.{◌≡◌, ℕ, pos, ◌+◌, ◌-◌, ◌%◌, ◌<◌, ◌≤◌, length, slice_index_or, IfSome, IfNone, IsTrue, IsFalse};
 ghost use Rattle.lane_min.specs.LeastSum.{sum_at, AreSmall, IsLeastSum};

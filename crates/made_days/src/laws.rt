@@ -1,4 +1,4 @@
-//! The law.
+//! The law that each made day is sound.
 
 ghost use Rattle.made_days.specs.Laws.{EachDayIsSound};
 

@@ -1,6 +1,6 @@
-//! The rows of a node's linear program, its master, as numbers: right sides, costs of the rows' own
-//! columns, what a tree brings to each row, and the rows' prices by cells and cuts. The day that is searched and
-//! the node that is solved stand here as one value each.
+//! The rows of a node's linear program, its master, as numbers: right sides, costs of the rows' own columns,
+//! what a tree brings to each row, and the rows' prices by cells and cuts. The day that is searched and the
+//! node that is solved stand here as one value each.
 #![tactic(auto)]
 
 mod building;

@@ -1,4 +1,4 @@
-//! The desk.
+//! The desk of listed columns.
 
 use fraction::Place;
 use roster_model::{List, PriceRoom, TreeRoom};

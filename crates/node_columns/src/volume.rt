@@ -1,5 +1,5 @@
-//! The volume algorithm over the rows of a node's master: prices of the rows, a bound that they show, and trees
-//! that are cheap there.
+//! The volume algorithm over the rows of a node's master: prices of the rows, a bound that they show, and
+//! trees that are cheap there.
 //!
 //! How it goes: a pass asks for the cheapest tree of the day at prices of the rows. As many of it as the
 //! heads allow at most, or at least where its reduced cost is not negative, make the *bound* with the prices'

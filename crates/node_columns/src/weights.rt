@@ -1,4 +1,4 @@
-//! The weights.
+//! The weights of trees at a basic solution.
 
 ghost use Rattle.std.specs.Prelude.{◌<◌, length, All, IfOk, IfSome, IfNone};
 ghost use Rattle.tableau.specs.declared.simplex.Basic.{Basic as BasicColumn};

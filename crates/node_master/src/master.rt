@@ -1,4 +1,4 @@
-//! The trait.
+//! The trait of masters, which a search asks.
 
 ghost use Rattle.std.specs.Prelude.{ℕ, ◌≡◌, ◌≤◌, ◌<◌, ◌-◌, ◌^◌, Bool, IfOk, MatchResult, length};
 ghost use Rattle.roster_model.specs.Folds.{Each};

@@ -1,4 +1,4 @@
-//! Near ends.
+//! Near ends: prices that weighted trees show to be best.
 
 ghost use Rattle.std.specs.Prelude.{◌^◌, Bool, List as Items, length, IsTrue, IfOk, IfSome};
 ghost use Rattle.roster_model.specs.PriceLimits.{FitPrices};

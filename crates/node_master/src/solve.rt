@@ -1,4 +1,4 @@
-//! The call.
+//! The public calls that solve a node's master.
 
 ghost use Rattle.std.specs.Prelude.{◌≡◌, ◌≤◌, Bool, Option, List as Items, Ok, true, IfOk};
 ghost use Rattle.roster_model.specs.declared.instance.Prices.{Prices as PriceList};

@@ -1,4 +1,4 @@
-//! A calendar.
+//! A calendar from a date on, and what is said of it.
 
 ghost use Rattle.std.specs.Prelude.{[], ◌∷◌, IfOk};
 ghost use Rattle.roster_model.specs.SoundInstance.{IsSoundInstance};

@@ -1,4 +1,4 @@
-//! The laws.
+//! The laws on pages of the same texts, and on texts over their limits.
 
 ghost use Rattle.std.specs.Prelude.{ℕ, ◌≡◌, List, ◌∷◌};
 ghost use Rattle.roster_model.specs.declared.grammar.Grammar.{Grammar};

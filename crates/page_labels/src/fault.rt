@@ -1,4 +1,4 @@
-//! The faults.
+//! Why a labels text is refused.
 
 use roster_model::Memory;
 use thiserror::Error;

@@ -1,4 +1,4 @@
-//! The laws.
+//! The laws on refused labels texts and on names at shifts.
 
 ghost use Rattle.std.specs.Prelude.{◌≡◌, ◌⊎◌, ℕ, List, Err, None};
 ghost use Rattle.roster_model.specs.declared.instance.Instance.{Instance};

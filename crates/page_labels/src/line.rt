@@ -1,4 +1,4 @@
-//! The lines.
+//! The lines of a labels text.
 
 ghost use Rattle.std.specs.Prelude.{◌≡◌, ◌≤◌, length};
 ghost use Rattle.page_labels.specs.LabelLines.{

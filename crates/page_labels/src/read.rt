@@ -1,4 +1,4 @@
-//! The whole text.
+//! A labels text, read from its first line to its end.
 
 ghost use Rattle.std.specs.Prelude.{◌≡◌, ◌<◌, ◌≤◌, ◌^◌, length};
 ghost use Rattle.roster_model.specs.SoundInstance.{IsSoundInstance};

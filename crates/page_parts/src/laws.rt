@@ -1,4 +1,4 @@
-//! The laws.
+//! The laws on escaped bytes, paints, amounts and names.
 
 ghost use Rattle.std.specs.Prelude.{ℕ, ◌≡◌, ◌∷◌, [], List};
 ghost use Rattle.std.specs.List.{flat_map};

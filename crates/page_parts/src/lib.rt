@@ -1,6 +1,6 @@
-//! The elements of a page that shows a roster, and how they are written: marks of the page's own,
-//! bytes of the texts, each escaped, numbers, amounts, rectangles and captions; the places of periods and rows;
-//! the colours of codes.
+//! The elements of a page that shows a roster, and how they are written: marks of the page's own, bytes of
+//! the texts, each escaped, numbers, amounts, rectangles and captions; the places of periods and rows; the
+//! colours of codes.
 #![tactic(auto)]
 
 mod area;

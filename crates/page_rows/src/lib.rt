@@ -1,5 +1,5 @@
-//! Worked rows of labels texts, of the parts and the figures of a page, of changes between rosters and of calendars,
-//! as tests over public calls.
+//! Worked rows of labels texts, of the parts and the figures of a page, of changes between rosters and of
+//! calendars, as tests over public calls.
 #![tactic(auto)]
 
 #[cfg(test)]

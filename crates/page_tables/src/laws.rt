@@ -1,4 +1,4 @@
-//! The law.
+//! The law that the marks of a page's tables stay.
 
 ghost use Rattle.std.specs.Prelude.{◌≡◌};
 ghost use Rattle.page_parts.specs.Amounts.{AreSaidAlike};

@@ -1,4 +1,4 @@
-//! The lines.
+//! The lines of a page's tables, as values.
 
 use roster_model::List;
 

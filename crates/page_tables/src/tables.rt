@@ -1,4 +1,4 @@
-//! All of them.
+//! All tables of a page.
 
 ghost use Rattle.std.specs.Prelude.{◌≡◌, ◌++◌, length, OnOk};
 ghost use Rattle.page_parts.specs.Elements.{written};

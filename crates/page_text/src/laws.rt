@@ -1,4 +1,4 @@
-//! The laws.
+//! The laws on the marks and the end of a page.
 
 ghost use Rattle.std.specs.Prelude.{ℕ, ◌≡◌, List, codes as text, length, min};
 ghost use Rattle.roster_model.specs.declared.grammar.CodeDef.{CodeDef};

@@ -1,4 +1,4 @@
-//! A row of it.
+//! A row of the chart of shifts.
 
 ghost use Rattle.std.specs.Prelude.{◌≡◌, ◌≤◌, max, length};
 ghost use Rattle.page_text.specs.Inputs.{longest};

@@ -1,4 +1,4 @@
-//! The laws.
+//! The laws on plans and the grammars that are written for them.
 
 ghost use Rattle.plan_laws.specs.Laws.{PlanLaw};
 ghost use Rattle.plan_laws.specs.PlanRules.{RulesLaw};

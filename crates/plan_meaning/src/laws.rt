@@ -1,4 +1,4 @@
-//! The laws.
+//! The laws on times, and worked plans.
 
 ghost use Rattle.std.specs.Prelude.{◌≡◌, false};
 ghost use Rattle.plan_meaning.specs.declared.plan.PlanDay.{PlanDay};

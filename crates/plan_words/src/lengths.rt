@@ -1,4 +1,4 @@
-//! Lengths.
+//! Lengths of time as numbers of periods.
 
 ghost use Rattle.std.specs.Prelude.{◌≡◌, ◌≤◌, IfOk, IfSome};
 ghost use Rattle.plan_words.specs.Digits.{clock_of};

@@ -1,8 +1,8 @@
 //! The words of a plan's lines: codes, names, times, lengths and amounts.
 //!
-//! A length is `H:MM` or `HH:MM`, and a time too, to 24:00, with `+1` behind it where it is the next day's. An amount
-//! is a whole number of at most seven digits, behind which a point and decimals may stand. What a word says is read
-//! without memory, and a word that says nothing, or too much, gives a fault that tells why.
+//! A length is `H:MM` or `HH:MM`, and a time too, to 24:00, with `+1` behind it where it is the next day's.
+//! An amount is a whole number of at most seven digits, behind which a point and decimals may stand. What a
+//! word says is read without memory, and a word that says nothing, or too much, gives a fault that tells why.
 #![tactic(auto)]
 
 mod amounts;

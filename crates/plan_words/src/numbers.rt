@@ -1,4 +1,4 @@
-//! Whole numbers.
+//! Whole numbers that words say.
 
 ghost use Rattle.std.specs.Prelude.{◌≡◌, ◌≤◌, IfOk};
 ghost use Rattle.plan_words.specs.Numbers.{number_at};

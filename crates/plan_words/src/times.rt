@@ -1,4 +1,4 @@
-//! Times of the day.
+//! Times of the day that words say.
 
 ghost use Rattle.std.specs.Prelude.{◌≡◌, ◌≤◌, ◌+◌, IfOk, IfSome};
 ghost use Rattle.plan_meaning.specs.Times.{begin_minute, day_length};

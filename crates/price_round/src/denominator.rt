@@ -1,4 +1,4 @@
-//! The denominator.
+//! The least denominator that makes prices whole.
 
 ghost use Rattle.std.specs.Prelude.{ℕ, ℤ, ◌≤◌, ◌<◌, ◌^◌, pos, ◌<ℤ◌, List, ◌++◌, IfSome, IfNone};
 ghost use Rattle.fraction.specs.Range.{InRange};

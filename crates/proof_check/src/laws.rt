@@ -1,4 +1,4 @@
-//! The law.
+//! The law that a yes is an accepted certificate.
 
 ghost use Rattle.proof_check.specs.YesOrNo.{YesIsAccepted};
 

@@ -1,4 +1,4 @@
-//! The laws.
+//! The laws on a proof text and its pieces.
 
 ghost use Rattle.std.specs.Prelude.{ℕ, ◌≡◌, List, Ok, Err};
 ghost use Rattle.roster_model.specs.declared.instance.Instance.{Instance};

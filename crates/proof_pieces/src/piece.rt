@@ -1,4 +1,4 @@
-//! A piece.
+//! One piece of a proof text.
 
 use roster_model::ArcKey;
 

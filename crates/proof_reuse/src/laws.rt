@@ -1,4 +1,4 @@
-//! The law.
+//! The law that an old certificate has one answer on a day.
 
 ghost use Rattle.proof_reuse.specs.Laws.{OneReuse};
 

@@ -1,4 +1,4 @@
-//! `reuse`.
+//! An old certificate's nodes, judged on another day: `reuse`.
 
 ghost use Rattle.std.specs.Prelude.{◌≡◌, IfOk};
 ghost use Rattle.roster_model.specs.SoundInstance.{IsSoundInstance};

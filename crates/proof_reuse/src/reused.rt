@@ -1,4 +1,4 @@
-//! The text.
+//! The text of what old nodes show.
 
 ghost use Rattle.std.specs.Prelude.{◌≡◌, IfOk};
 ghost use Rattle.proof_reuse.specs.ReusedText.{bound_text, reused_text};

@@ -1,4 +1,4 @@
-//! `rank`, and its answer.
+//! The first trees in order: `rank`, and its answer.
 
 ghost use Rattle.std.specs.Prelude.{◌≡◌, ◌≤◌, [], ◌∷◌, IfOk};
 ghost use Rattle.roster_model.specs.Sound.{IsSound};

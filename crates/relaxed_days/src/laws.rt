@@ -1,4 +1,4 @@
-//! The laws.
+//! The laws on rosters of relaxed days.
 
 ghost use Rattle.relaxed_days.specs.declared.kind.Kind.{Kind};
 ghost use Rattle.relaxed_days.specs.Laws.{

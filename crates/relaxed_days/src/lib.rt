@@ -1,5 +1,5 @@
-//! Days that tell how far a day is from having a roster: its rules cost nothing, and its floors, or its ceilings, are
-//! counted in place of being strict.
+//! Days that tell how far a day is from having a roster: its rules cost nothing, and its floors, or its
+//! ceilings, are counted in place of being strict.
 #![tactic(auto)]
 
 mod day;

@@ -1,4 +1,4 @@
-//! The texts.
+//! The texts of relaxed rules and days.
 
 ghost use Rattle.std.specs.Prelude.{IfOk};
 ghost use Rattle.roster_model.specs.Sound.{IsPlain, IsSound};

@@ -1,4 +1,4 @@
-//! The law.
+//! The law that pieces give a word back.
 
 ghost use Rattle.std.specs.Prelude.{ℕ, ◌≡◌, List};
 ghost use Rattle.std.specs.List.{flat_map};

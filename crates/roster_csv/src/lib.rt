@@ -1,5 +1,5 @@
-//! A roster as a table of comma-separated values, which spreadsheets read: a record for each greatest stretch of one
-//! code; and as an iCalendar text, which calendar programs read.
+//! A roster as a table of comma-separated values, which spreadsheets read: a record for each greatest stretch
+//! of one code; and as an iCalendar text, which calendar programs read.
 #![tactic(auto)]
 
 mod coverage;

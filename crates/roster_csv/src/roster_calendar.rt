@@ -1,5 +1,5 @@
-//! A roster as an iCalendar text (RFC 5545), which calendar programs read: an event for each stretch of a shift without time
-//! off, or for each shift that works.
+//! A roster as an iCalendar text (RFC 5545), which calendar programs read: an event for each stretch of a
+//! shift without time off, or for each shift that works.
 
 mod calendar;
 mod date;

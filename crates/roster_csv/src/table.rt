@@ -1,4 +1,4 @@
-//! The table.
+//! The table of shifts.
 
 ghost use Rattle.std.specs.Prelude.{◌≡◌, ◌≤◌, ◌-◌, ◌+◌, ◌++◌, [], ◌∷◌, All, IfOk, OnOk, length};
 ghost use Rattle.std.specs.Fmt.{decimal};

@@ -1,4 +1,4 @@
-//! Which trees go.
+//! Which trees go from a roster first.
 
 use crate::drawing::Draws;
 use hole_passes::{HoleRoster, HoleTree, short, weight, whole};

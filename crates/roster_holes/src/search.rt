@@ -1,4 +1,4 @@
-//! The public calls.
+//! The public calls of a search for rosters by holes.
 
 ghost use Rattle.std.specs.Prelude.{IfOk, IfSome};
 ghost use Rattle.roster_holes.specs.Found.{AreSoundShifts};

@@ -1,4 +1,4 @@
-//! Shifts are tested.
+//! The test that shifts are sound.
 
 ghost use Rattle.std.specs.Prelude.{◌≡◌, ◌≤◌, ◌↔◌, IsTrue, IfOk, IfSome, length};
 ghost use Rattle.roster_model.specs.Folds.{Each};

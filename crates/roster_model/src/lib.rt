@@ -1,7 +1,7 @@
 //! The shared model of a staffing day: grammars, derivation trees and the prices on them.
 //!
-//! Its modules of laws hold what follows from that alone: `tree_laws` on trees and least sums, `arc_laws` on the
-//! arcs of an instance and how often trees have them, `word_prices` on prices that single out one word.
+//! Its modules of laws hold what follows from that alone: `tree_laws` on trees and least sums, `arc_laws` on
+//! the arcs of an instance and how often trees have them, `word_prices` on prices that single out one word.
 //!
 //! The formulation is the grammar-based one of Côté, Gendron and Rousseau, "Grammar-Based Integer
 //! Programming Models for Multiactivity Shift Scheduling", Management Science 57 (2011); the graph

@@ -1,4 +1,4 @@
-//! The whole call.
+//! The whole call: a roster completed, and made better.
 
 ghost use Rattle.std.specs.Prelude.{◌<◌, All, IfOk, OnOk, length};
 ghost use Rattle.tree_pool.specs.Pools.{IsPool};

@@ -1,4 +1,4 @@
-//! Between two pools.
+//! Trees copied between two pools.
 
 ghost use Rattle.std.specs.Prelude.{◌<◌, All, IfOk, OnOk, length};
 ghost use Rattle.tree_pool.specs.Pools.{IsPool};

@@ -1,4 +1,4 @@
-//! The moves.
+//! The moves that make a roster better.
 
 ghost use Rattle.std.specs.Prelude.{◌<◌, OnOk, length};
 ghost use Rattle.roster_moves.specs.Drafts.{IsDraft};

@@ -1,4 +1,4 @@
-//! One more tree.
+//! One more tree for a team.
 
 ghost use Rattle.std.specs.Prelude.{OnOk, length};
 ghost use Rattle.tree_pool.specs.Pools.{IsPool};

@@ -1,4 +1,4 @@
-//! Which trees go.
+//! Which trees a move takes away.
 
 ghost use Rattle.std.specs.Prelude.{◌<◌, All, length};
 

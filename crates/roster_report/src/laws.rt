@@ -1,4 +1,4 @@
-//! The laws.
+//! The laws on reports that are written and read.
 
 ghost use Rattle.std.specs.Prelude.{◌≡◌};
 ghost use Rattle.roster_model.specs.declared.instance.Instance.{Instance};

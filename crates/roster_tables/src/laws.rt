@@ -1,4 +1,4 @@
-//! The laws.
+//! The laws on names and stretches in the table of shifts.
 
 ghost use Rattle.std.specs.Prelude.{ℕ, ◌≡◌, ◌<◌, List, length};
 ghost use Rattle.roster_model.specs.Folds.{Each};

@@ -1,4 +1,4 @@
-//! All of them.
+//! All tables of a roster.
 
 ghost use Rattle.std.specs.Prelude.{◌≡◌, ◌≤◌, All, IfOk, length};
 ghost use Rattle.page_text.specs.Costs.{AreDayColumns};

@@ -1,4 +1,4 @@
-//! The causes.
+//! The causes for which a stated roster is not allowed.
 
 /// Why a stated roster is not allowed. Shifts are numbered from 1 in their order, and groups from 1, with 0 on a
 /// day without groups; a code is given by its byte.

@@ -1,4 +1,4 @@
-//! Their lines.
+//! The lines of causes.
 
 ghost use Rattle.std.specs.Prelude.{◌≡◌, ◌++◌, OnOk};
 ghost use Rattle.roster_value.specs.CauseText.{

@@ -2,11 +2,11 @@
 //!
 //! A stated roster is a list of shifts without prices. It is allowed where each word is a shift of its team,
 //! each team has as many shifts as it may, and the coverage of each cell is within its floor and ceiling.
-//! [`judge`] gives the roster at its prices, or all causes for which it is not allowed; [`stated_answer`] gives
-//! the text of either, with how each demanded code is covered.
+//! [`judge`] gives the roster at its prices, or all causes for which it is not allowed; [`stated_answer`]
+//! gives the text of either, with how each demanded code is covered.
 //!
-//! `stated_rosters` reads such a roster's text, `remaining_day` has the day that remains beside kept shifts, and
-//! `group_rules` the rules of a day with groups, by which that day is written.
+//! `stated_rosters` reads such a roster's text, `remaining_day` has the day that remains beside kept shifts,
+//! and `group_rules` the rules of a day with groups, by which that day is written.
 //!
 //! The table is filled once for each word of a team, however often and wherever it stands.
 #![tactic(auto)]

@@ -1,4 +1,4 @@
-//! The laws.
+//! The laws on rules texts that are read and written.
 
 ghost use Rattle.std.specs.Prelude.{◌≡◌, ◌⊎◌, ℕ, List, Result, Ok, Err};
 ghost use Rattle.roster_model.specs.declared.grammar.Grammar.{Grammar};

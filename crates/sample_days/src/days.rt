@@ -1,4 +1,4 @@
-//! The days.
+//! The small days, by name.
 
 ghost use Rattle.std.specs.Prelude.{IfOk};
 ghost use Rattle.roster_model.specs.SoundInstance.{IsSoundInstance};

@@ -1,4 +1,4 @@
-//! How it lists trees at these prices.
+//! How a hunt lists trees at the prices that it asks at.
 
 ghost use Rattle.std.specs.Prelude.{◌≡◌, length};
 ghost use Rattle.master_rows.specs.node_task.Tasks.{IsTask, row_count};

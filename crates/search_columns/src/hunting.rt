@@ -1,4 +1,4 @@
-//! Its rounds.
+//! The rounds of a hunt.
 
 ghost use Rattle.std.specs.Prelude.{◌≡◌, length};
 ghost use Rattle.search_columns.specs.Hunts.{IsHunting, StayHunting};

@@ -1,4 +1,4 @@
-//! What it begins with beside a basis, by the volume algorithm.
+//! What a hunt begins with beside a basis, by the volume algorithm.
 
 ghost use Rattle.tree_pool.specs.Pools.{IsPool};
 ghost use Rattle.master_rows.specs.search_day.Rooms.{Grows};

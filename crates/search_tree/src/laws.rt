@@ -1,4 +1,4 @@
-//! The laws.
+//! The laws on leaves, seats and paths of a search's tree.
 
 ghost use Rattle.search_tree.specs.Laws.{CountRises, FewSeats, LeafInHand, LimitFalls, ShortPaths};
 

@@ -1,5 +1,5 @@
-//! What watches a search: it is told how far the search is, and says whether that is to go on, between two turns
-//! and within one.
+//! What watches a search: it is told how far the search is, and says whether that is to go on, between two
+//! turns and within one.
 #![tactic(auto)]
 
 mod clock;

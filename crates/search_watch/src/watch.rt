@@ -1,4 +1,4 @@
-//! The trait.
+//! The trait of watches.
 
 ghost use Rattle.std.specs.Prelude.{◌≡◌, Bool, true, false, None, IsTrue};
 

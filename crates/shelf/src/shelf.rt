@@ -1,4 +1,4 @@
-//! The trait.
+//! The trait of shelves.
 
 ghost use Rattle.std.specs.Prelude.{◌≡◌, ◌≤◌, ◌+◌, ◌++◌, length, false, Some, OnOk, IfSome, IsSome, IsSomeAnd, IsTrue, Err};
 ghost use Rattle.std.specs.FinMap as fin;

@@ -1,4 +1,4 @@
-//! The laws.
+//! The laws on stretches and runs.
 
 ghost use Rattle.std.specs.Prelude.{ℕ, ◌≡◌, List, All, Some, true};
 ghost use Rattle.std.specs.List.{flat_map, list_all};

@@ -1,6 +1,6 @@
-//! What a planner looks for in a roster: when work begins and ends, which stretches have no time off, what is paid,
-//! in which order shifts stand, how often a code is had, which share of the need is covered, the runs of shortage and
-//! of surplus, what a bound tells of a cost, and what differs between two rosters of one day.
+//! What a planner looks for in a roster: when work begins and ends, which stretches have no time off, what is
+//! paid, in which order shifts stand, how often a code is had, which share of the need is covered, the runs
+//! of shortage and of surplus, what a bound tells of a cost, and what differs between two rosters of one day.
 #![tactic(auto)]
 
 mod bound;

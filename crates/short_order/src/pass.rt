@@ -1,4 +1,4 @@
-//! The pass from below.
+//! The pass over the arcs from below.
 
 ghost use Rattle.short_order.specs.Best.{AreBest};
 

@@ -1,4 +1,4 @@
-//! Free prices.
+//! Prices under which everything is free, so that a least sum tells that there is a tree.
 
 use roster_model::{ArcKey, ArcPrice, LetterPrice};
 

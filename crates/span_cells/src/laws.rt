@@ -1,4 +1,4 @@
-//! The law on places.
+//! The law on places of spans.
 
 ghost use Rattle.span_cells.specs.Places.{PlacesDiffer};
 

@@ -1,5 +1,5 @@
-//! The plain table: the least sums of all trees of a grammar, by symbol or suffix and span; and those of the trees
-//! that have a code at a period.
+//! The plain table: the least sums of all trees of a grammar, by symbol or suffix and span; and those of the
+//! trees that have a code at a period.
 #![tactic(auto)]
 
 mod next_codes;

@@ -1,4 +1,4 @@
-//! Weights.
+//! Weights of trees, in units of 2^-32.
 
 /// The weight of a tree of the pool.
 #[derive(Clone, Copy, Debug, Drop)]

@@ -1,4 +1,4 @@
-//! `solve`, and its answers.
+//! The simplex method: `solve`, and its answers.
 
 ghost use Rattle.std.specs.Prelude.{ℕ, ◌≡◌, ◌≤◌, ◌<◌, pos, ◌≤ℤ◌, IfOk, IfErr, IsTrue, length};
 ghost use Rattle.bound_laws.specs.linear_programs.Program.{IsSound};

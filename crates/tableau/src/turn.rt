@@ -1,4 +1,4 @@
-//! One turn.
+//! One turn of the simplex method.
 
 ghost use Rattle.std.specs.Prelude.{ℕ, ◌≡◌, ◌≤◌, ◌<◌, ◌+◌, ◌^◌, pos, neg_ℤ, ◌≤ℤ◌, ◌<ℤ◌, unsigned_abs, length, slice_set, List, ℤ, IfOk, IfErr, MatchResult};
 ghost use Rattle.fraction.specs.Row.{at};

@@ -1,5 +1,5 @@
-//! Worked rows of fractions, of the simplex method, of scouts and of a master's rounded prices, as tests over public
-//! calls.
+//! Worked rows of fractions, of the simplex method, of scouts and of a master's rounded prices, as tests over
+//! public calls.
 #![tactic(auto)]
 
 #[cfg(test)]

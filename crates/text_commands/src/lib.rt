@@ -1,7 +1,6 @@
 //! Commands that answer from texts alone: what a word costs, the first trees of a day, what may come next,
-//! what fits, whether a certificate is accepted, what a stated roster comes to, what remains beside kept shifts, and
-//! a day that counts how far another is from having a roster.
-//! They store nothing.
+//! what fits, whether a certificate is accepted, what a stated roster comes to, what remains beside kept
+//! shifts, and a day that counts how far another is from having a roster. They store nothing.
 #![tactic(auto)]
 
 pub mod check;

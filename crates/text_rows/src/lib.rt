@@ -1,5 +1,5 @@
-//! Worked rows of the texts, as tests over public calls: lines and numbers, rules, demand and proof texts, and
-//! reports.
+//! Worked rows of the texts, as tests over public calls: lines and numbers, rules, demand and proof texts,
+//! and reports.
 #![tactic(auto)]
 
 #[cfg(test)]

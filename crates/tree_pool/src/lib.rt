@@ -1,5 +1,5 @@
-//! The trees of a day that a search has found so far, each once; and the two lists that tell a tree, over rules in
-//! parts of at most two.
+//! The trees of a day that a search has found so far, each once; and the two lists that tell a tree, over
+//! rules in parts of at most two.
 #![tactic(auto)]
 
 mod arcs;

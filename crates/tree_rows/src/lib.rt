@@ -1,5 +1,5 @@
-//! Worked rows of a day's arcs, of a made day, of the greatest cost of a day and of spans, as tests over public
-//! calls.
+//! Worked rows of a day's arcs, of a made day, of the greatest cost of a day and of spans, as tests over
+//! public calls.
 #![tactic(auto)]
 
 #[cfg(test)]

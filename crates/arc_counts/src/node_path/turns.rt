@@ -1,4 +1,4 @@
-//! Turns, made and undone.
+//! The turns of a path, made and undone.
 
 ghost use Rattle.std.specs.Prelude.{◌≡◌, [], List, IfSome, IfNone, OnOk};
 ghost use Rattle.roster_model.specs.declared.instance.Cut.{Cut as OneCut};

@@ -1,4 +1,4 @@
-//! The law.
+//! The law that balanced numbers are the counts of a list of trees.
 
 ghost use Rattle.arc_counts.specs.roster_split.Balanced.{SplitBalanced};
 

@@ -1,4 +1,4 @@
-//! All trees.
+//! All trees of balanced counts, taken one by one.
 
 ghost use Rattle.std.specs.Prelude.{◌≡◌, IfOk, MatchResult, OnOk, length};
 ghost use Rattle.roster_model.specs.declared.grammar.Grammar.{Grammar as Rules};

@@ -1,4 +1,4 @@
-//! The laws.
+//! The laws that least sums and Lagrangian values exist.
 
 ghost use Rattle.bound_laws.specs.least_values.Laws.{HaveLeastSums, HaveValues, BestBoundsRivals};
 

@@ -1,4 +1,4 @@
-//! The trait, and the laws.
+//! The trait of linear programs, and the laws on their solutions.
 
 ghost use Rattle.std.specs.Prelude.{◌≡◌, ◌↔◌, ◌<◌, ◌+◌, ℕ, ℤ, pos, unsigned_abs, ◌*ℤ◌, ◌≤ℤ◌, ◌<ℤ◌, List};
 ghost use Rattle.bound_laws.specs.linear_programs.Sums.{dot};

@@ -1,4 +1,4 @@
-//! The laws.
+//! The laws on the master of a node.
 
 ghost use Rattle.bound_laws.specs.master_laws.Ends.{WeightsApart, PathEnds};
 ghost use Rattle.bound_laws.specs.master_laws.Rounding.{WideRounding};

@@ -1,4 +1,4 @@
-//! The laws.
+//! The laws on any solution of a node's master.
 
 ghost use Rattle.bound_laws.specs.near_laws.Laws.{RivalsBelowSolutions, NearAreBest, CompletedSolves, CompletedCostsLeast, NearTreesShowBest, NearCountsClose};
 ghost use Rattle.bound_laws.specs.near_laws.Worked.{WorkedCompleted};

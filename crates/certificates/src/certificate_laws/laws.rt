@@ -1,4 +1,4 @@
-//! The laws.
+//! The laws on what a certificate shows, and why a yes is right.
 
 ghost use Rattle.certificates.specs.certificate_laws.Laws.{YesIsSound, OneShownValue, CausesRefuse, OneFirstCause};
 ghost use Rattle.certificates.specs.certificate_laws.Worked.{WorkedNodes};

@@ -1,4 +1,4 @@
-//! The laws.
+//! The laws on the tree of a search while it grows.
 
 ghost use Rattle.certificates.specs.growing_laws.Laws.{GrownShows, LeastBound, PutRises, PutTimes, PutBusy, PutMissed, GrownCounts, FewNodes};
 ghost use Rattle.certificates.specs.growing_laws.Opens.{PutOpens, OpensSound, OpensLeast};

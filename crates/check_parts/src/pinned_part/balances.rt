@@ -1,4 +1,4 @@
-//! The room.
+//! The room for the balances of counts at the nodes.
 
 ghost use Rattle.std.specs.Prelude.{IfOk};
 ghost use Rattle.roster_model.specs.Sound.{IsSound};

@@ -1,4 +1,4 @@
-//! What the trees, the cells and the cuts bring to it.
+//! What the trees, the cells and the cuts bring to a value.
 
 ghost use Rattle.std.specs.Prelude.{◌≡◌, ◌≤◌, ◌*◌, ◌^◌, ◌*ℤ◌, pos, All, IfSome, length};
 ghost use Rattle.roster_model.specs.Coverage.{penalty};

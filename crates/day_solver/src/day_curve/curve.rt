@@ -1,4 +1,4 @@
-//! The curve.
+//! A curve over the greatest number of a team, point by point.
 
 ghost use Rattle.std.specs.Prelude.{◌≡◌, ◌≤◌, ◌<◌, ◌-◌, [], IfOk, IfSome, MatchResult, length};
 ghost use Rattle.roster_model.specs.Folds.{Each};

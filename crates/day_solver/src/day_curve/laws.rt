@@ -1,4 +1,4 @@
-//! The laws.
+//! The laws on what costs do with more employees.
 
 ghost use Rattle.day_solver.specs.day_curve.Laws.{AllowedWithMore, CostsFall, OfferedCostsFall};
 

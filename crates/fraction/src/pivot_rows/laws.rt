@@ -1,4 +1,4 @@
-//! The law.
+//! The law that each row has a step by each other row.
 
 ghost use Rattle.fraction.specs.pivot_rows.Rows.{RowStepsExist};
 

@@ -1,4 +1,4 @@
-//! A node's task.
+//! The node of a search whose master is solved, as one value.
 
 use crate::NodeRows;
 use crate::search_day::Day;

@@ -1,4 +1,4 @@
-//! A day.
+//! A day that is searched, with its graph, as one value.
 
 use parse_graph::Graph;
 use roster_model::Instance;

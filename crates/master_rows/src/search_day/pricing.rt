@@ -1,4 +1,4 @@
-//! What prices its trees.
+//! What prices the trees of a day that is searched.
 
 ghost use Rattle.std.specs.Prelude.{◌≡◌, IfOk};
 ghost use Rattle.master_rows.specs.search_day.Days.{IsDay};

@@ -1,4 +1,4 @@
-//! Raising and lowering passes.
+//! Passes that raise and lower weights until rows hold.
 
 use crate::near_weights::table::{RowBalance, Table, Weighted};
 

@@ -1,4 +1,4 @@
-//! What the passes work on, beside the pricer.
+//! What the volume algorithm works on.
 
 ghost use Rattle.std.specs.Prelude.{IfOk};
 ghost use Rattle.cheapest_tree.specs.Pricers.{PricerView, IsMadeFor};

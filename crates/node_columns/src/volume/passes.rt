@@ -1,4 +1,4 @@
-//! The passes.
+//! The passes of the volume algorithm.
 
 ghost use Rattle.master_rows.specs.node_task.Tasks.{IsTask};
 ghost use Rattle.node_columns.specs.volume.Desks.{IsVolumeDesk};

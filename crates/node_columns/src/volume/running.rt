@@ -1,4 +1,4 @@
-//! The whole call.
+//! The whole call of the volume algorithm.
 
 ghost use Rattle.std.specs.Prelude.{◌≡◌, IfOk};
 ghost use Rattle.cheapest_tree.specs.Pricers.{IsMadeFor};

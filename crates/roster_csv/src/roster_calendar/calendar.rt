@@ -1,4 +1,4 @@
-//! The text.
+//! The text of a calendar.
 
 ghost use Rattle.std.specs.Prelude.{◌≡◌, ◌≤◌, ◌++◌, All, IfOk, OnOk, length};
 ghost use Rattle.roster_model.specs.SoundInstance.{IsSoundInstance};

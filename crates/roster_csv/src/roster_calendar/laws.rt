@@ -1,4 +1,4 @@
-//! The laws.
+//! The laws on folds, escapes and dates of a calendar.
 
 ghost use Rattle.std.specs.Prelude.{ℕ, pos, ◌+ℤ◌, ◌≡◌, true, List};
 ghost use Rattle.std.specs.List.{list_all};

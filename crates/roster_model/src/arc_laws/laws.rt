@@ -1,4 +1,4 @@
-//! The laws.
+//! The laws on the arcs of an instance.
 
 ghost use Rattle.roster_model.specs.arc_laws.Laws.{
   ArcOnce,

@@ -1,4 +1,4 @@
-//! The laws.
+//! The laws on trees and their least sums.
 
 ghost use Rattle.roster_model.specs.tree_laws.Laws.{OneLeastTree, OneLeastParts, SplitByFirst, SplitByRule, FewUses, SmallSums};
 

@@ -1,4 +1,4 @@
-//! The laws.
+//! The laws on the price of a word.
 
 ghost use Rattle.roster_model.specs.word_prices.Prices.{LeastTree, ShiftLength, WordSums};
 

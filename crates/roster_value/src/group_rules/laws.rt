@@ -1,4 +1,4 @@
-//! The two laws.
+//! The laws on prices by the rules and by groups.
 
 ghost use Rattle.roster_value.specs.group_rules.Laws.{PlainOfExtended, SamePrices};
 

@@ -1,4 +1,4 @@
-//! The copy.
+//! A copy of a day's grammar without what its groups add.
 
 ghost use Rattle.std.specs.Prelude.{◌≡◌, ◌++◌, [], ◌∷◌, IfOk, OnOk};
 ghost use Rattle.roster_value.specs.group_rules.Plain.{added_names, plain_from};

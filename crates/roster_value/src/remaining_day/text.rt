@@ -1,4 +1,4 @@
-//! The texts.
+//! The texts of a remaining day, and of why there is none.
 
 ghost use Rattle.std.specs.Prelude.{◌≡◌, ◌++◌, [], ◌∷◌, List as Items, IfOk, OnOk, codes as text, length};
 ghost use Rattle.roster_model.specs.Demands.{Demand};

@@ -1,4 +1,4 @@
-//! What a fault tells.
+//! The law on what a fault of a roster text tells.
 
 ghost use Rattle.std.specs.Prelude.{◌≡◌, ◌⊎◌, ℕ, List, Err};
 ghost use Rattle.roster_model.specs.declared.instance.Instance.{Instance};

@@ -1,4 +1,4 @@
-//! A line.
+//! One line of a roster text.
 
 ghost use Rattle.std.specs.Prelude.{◌≡◌, ◌≤◌, List as Items, length};
 ghost use Rattle.roster_model.specs.declared.instance.Shift.{Shift as Said};

@@ -1,4 +1,4 @@
-//! The whole text.
+//! A roster text, read from its first line to its end.
 
 ghost use Rattle.std.specs.Prelude.{◌≡◌, ◌<◌, ◌≤◌, ◌^◌, [], length, IfOk};
 ghost use Rattle.roster_model.specs.SoundInstance.{IsSoundInstance};

@@ -1,4 +1,4 @@
-//! Totals, lowered.
+//! Totals, lowered by what is pushed to them.
 
 ghost use Rattle.std.specs.Prelude.{ℕ, ◌≡◌, ◌≤◌, ◌<◌, ◌+◌, ◌*◌, ◌^◌, IsTrue, Some, length, drop};
 ghost use Rattle.roster_model.specs.Grammar.{rule_at, InDay};

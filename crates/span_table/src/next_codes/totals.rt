@@ -1,4 +1,4 @@
-//! The totals.
+//! The totals that are pushed top down.
 
 ghost use Rattle.std.specs.Prelude.{◌≡◌, IfOk, length};
 ghost use Rattle.roster_model.specs.Sound.{IsSound};

@@ -1,4 +1,4 @@
-//! Such a day.
+//! A day whose floors, or ceilings, are counted.
 
 ghost use Rattle.std.specs.Prelude.{[], ◌∷◌, IfOk};
 ghost use Rattle.roster_model.specs.Sound.{IsPlain, IsSound};

@@ -1,4 +1,4 @@
-//! The laws.
+//! The laws on the two lists that tell a tree.
 
 ghost use Rattle.tree_pool.specs.grammar_core.Lists.{StepsTellTree, ArcsTellTree, ListsTellOneTree};
 
