@@ -18,43 +18,43 @@ PAGE = TOP / "docs" / "MODEL.md"
 WORD = re.compile(r"[^\W\d][\w'◌\-]*|◌\S+◌")
 IMPORT = re.compile(r"use Rattle\.([\w.]+?)(?:\.\{(.*)\})?(?: as (\w+))?$")
 HEAD = re.compile(r"(?:pub |abbrev |data |record |opaque |mutual )*([^\s(:{]+)")
-READER = ("answers.specs.Reader", "IsReader")
-WRITER = ("search_commands.specs.Writer", "IsWriter")
-RULES = ("answers.specs.RulesCommands", "RulesCommand")
-CERT = ("answers.specs.Says", "CertCommand")
-SOLVE = ("search_commands.specs.SolveAnswers", "SolveAnswers")
+READER = ("command_answers.specs.Reader", "IsReader")
+WRITER = ("command_searches.specs.Writer", "IsWriter")
+RULES = ("command_answers.specs.RulesCommands", "RulesCommand")
+CERT = ("command_answers.specs.Says", "CertCommand")
+SOLVE = ("command_searches.specs.SolveAnswers", "SolveAnswers")
 
 # What tells how a search went, and not what it found; that the checker found no cause, and the causes of a no.
-HOW = {("search_commands.specs.SolveAnswers", "IsSearched")}
-CAUSES = {("certificates.specs.certificate_laws.Accepted", "Accepts"), ("text_commands.specs.Check", "SaysNo")}
+HOW = {("command_searches.specs.SolveAnswers", "IsSearched")}
+CAUSES = {("check_certificates.specs.certificate_laws.Accepted", "Accepts"), ("command_texts.specs.Check", "SaysNo")}
 
 # The parts of the table: what it says of each, and the definitions that it begins from.
 PARTS = {
-    "yes": ("what a yes states", [("certificates.specs.certificate_laws.Right", "YesIsRight")]),
+    "yes": ("what a yes states", [("check_certificates.specs.certificate_laws.Right", "YesIsRight")]),
     "texts": ("what the rules, the demand and the proof text say", [
-        ("rules_text.specs.RulesOf", "IsReading"), ("demand_text.specs.InstanceOf", "instance_of"),
-        ("proof_pieces.specs.CertOf", "proof_of")]),
-    "trusted": ("`check`, without the causes of a no", [CERT, ("text_commands.specs.Check", "Judgement"), READER]),
-    "check": ("`check`, with each cause of a no", [CERT, ("text_commands.specs.Check", "Judgement"), READER]),
-    "explain": ("`explain`", [RULES, ("text_commands.specs.Explain", "DerivationFrom"), READER]),
-    "rank": ("`rank`", [RULES, ("text_commands.specs.Days", "RankFrom"), READER]),
-    "next": ("`next`", [RULES, ("text_commands.specs.Days", "NextFrom"), READER]),
-    "fits": ("`fits`", [RULES, ("text_commands.specs.Days", "FitsFrom"), READER]),
+        ("text_rules.specs.RulesOf", "IsReading"), ("text_demand.specs.InstanceOf", "instance_of"),
+        ("text_proof_pieces.specs.CertOf", "proof_of")]),
+    "trusted": ("`check`, without the causes of a no", [CERT, ("command_texts.specs.Check", "Judgement"), READER]),
+    "check": ("`check`, with each cause of a no", [CERT, ("command_texts.specs.Check", "Judgement"), READER]),
+    "explain": ("`explain`", [RULES, ("command_texts.specs.Explain", "DerivationFrom"), READER]),
+    "rank": ("`rank`", [RULES, ("command_texts.specs.Days", "RankFrom"), READER]),
+    "next": ("`next`", [RULES, ("command_texts.specs.Days", "NextFrom"), READER]),
+    "fits": ("`fits`", [RULES, ("command_texts.specs.Days", "FitsFrom"), READER]),
     "value": ("`value`, with each cause", [
-        ("answers.specs.TextCommands", "TextCommand"), ("text_commands.specs.what_if.Value", "Valuation"), READER]),
+        ("command_answers.specs.TextCommands", "TextCommand"), ("command_texts.specs.what_if.Value", "Valuation"), READER]),
     "rest": ("`rest`, with each cause", [
-        ("answers.specs.TextCommands", "TextCommand"), ("text_commands.specs.what_if.Rest", "Resting"), READER]),
-    "relax-rules": ("`relax-rules`", [RULES, ("text_commands.specs.relax.Answers", "RelaxedRules"), READER]),
+        ("command_answers.specs.TextCommands", "TextCommand"), ("command_texts.specs.what_if.Rest", "Resting"), READER]),
+    "relax-rules": ("`relax-rules`", [RULES, ("command_texts.specs.relax.Answers", "RelaxedRules"), READER]),
     "relax-demand": ("`relax-demand`", [
-        ("text_commands.specs.relax.DayCommands", "DayCommand"), ("text_commands.specs.relax.Answers", "RelaxedDemand"),
+        ("command_texts.specs.relax.DayCommands", "DayCommand"), ("command_texts.specs.relax.Answers", "RelaxedDemand"),
         READER]),
-    "reuse": ("`reuse`", [CERT, ("search_commands.specs.Reuse", "Reusing"), READER]),
+    "reuse": ("`reuse`", [CERT, ("command_searches.specs.Reuse", "Reusing"), READER]),
     "found": ("`solve`, without how it searched", [SOLVE, WRITER]),
     "solve": ("`solve`", [SOLVE, WRITER]),
-    "make": ("`make`", [("search_commands.specs.Make", "AnswersMake"), WRITER]),
+    "make": ("`make`", [("command_searches.specs.Make", "AnswersMake"), WRITER]),
     "curve": ("`curve`", [
-        ("search_commands.specs.CurveAnswers", "CurveAnswers"), ("search_commands.specs.CurveAnswers", "MayStoreDay"),
-        ("search_commands.specs.Series", "IsSeriesWriter")]),
+        ("command_searches.specs.CurveAnswers", "CurveAnswers"), ("command_searches.specs.CurveAnswers", "MayStoreDay"),
+        ("command_searches.specs.Series", "IsSeriesWriter")]),
     "one": ("that the same texts have one answer", [("command_line.specs.OneAnswer", "HasOneAnswer")]),
     "run": ("all of `run`", [
         ("command_line.specs.Form", "form_of"), ("command_line.specs.Run", "Does"),

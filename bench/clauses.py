@@ -10,8 +10,8 @@ import sys
 sys.dont_write_bytecode = True
 from readme_order import CRATES, called_crates, is_of_rows
 
-SEARCH = ["arc_counts", "node_columns", "search_columns", "node_master", "candidate_rosters", "roster_moves", "dives", "split_probes",
-          "arc_weights", "search_primal", "branch_price", "day_solver"]
+SEARCH = ["search_arc_counts", "search_node_columns", "search_columns", "search_masters", "search_candidates", "search_moves", "search_dives", "search_strong_branching",
+          "search_arc_weights", "search_primal", "search_branch_price", "search_days"]
 MOST = 7
 FUNCTION = re.compile(r"\s*(?:pub(?:\([\w:]+\))? )?(?:const )?fn (\w+)")
 

@@ -1,10 +1,10 @@
-//! The exact path of a master in plain Rust: the rule, the steps and the 64-bit rows of crates/tableau and
-//! crates/fraction, for comparison.
+//! The exact path of a master in plain Rust: the rule, the steps and the 64-bit rows of crates/lp_tableaus and
+//! crates/lp_fractions, for comparison.
 //!
 //! Standard input: a master as numbers, separated by blanks: how many rows, and their right sides; how many
 //! columns, and how many of these are listed at first (the others are listed one by one where none of those
 //! is cheap); for each column its cost, how many entries it has, and the row and the value of each; how many
-//! columns are wanted, and their numbers. A copy of crates/node_master can print them around `solve`.
+//! columns are wanted, and their numbers. A copy of crates/search_masters can print them around `solve`.
 //!
 //! Prints the value and the pivots, and with any word also the greatest number that the path met and the
 //! basic columns with their weights.

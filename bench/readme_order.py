@@ -14,7 +14,7 @@ HEADINGS = ["Proved", "Only tested"]
 
 def is_of_rows(crate, called):
     """Crates of rows, of tests and of benches, are those that no other crate calls."""
-    return crate not in called and (crate.endswith("_rows") or crate == "bench_runs")
+    return crate not in called and (crate.startswith("rows_") or crate == "bench_runs")
 
 
 def below():

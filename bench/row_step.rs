@@ -1,4 +1,4 @@
-//! The row step of crates/fraction in plain Rust, for the comparison of bench/row_step.py: the same
+//! The row step of crates/lp_fractions in plain Rust, for the comparison of bench/row_step.py: the same
 //! functions, and the same program around them as in crates/bench_runs.
 
 const WORD: u128 = u64::MAX as u128;

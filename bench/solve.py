@@ -37,10 +37,10 @@ TOP = pathlib.Path(__file__).resolve().parent.parent
 SOLVERS = ("cbc", "highs")
 # The crates that do each part of a search.
 PARTS = {
-    "scout": {"float_basis", "float_simplex", "scout"},
-    "exact path": {"tableau", "fraction"},
-    "passes": {"cheapest_tree"},
-    "tables": {"span_cells", "span_table"},
+    "float program": {"lp_float_basis", "lp_float_simplex", "lp_float_programs"},
+    "exact path": {"lp_tableaus", "lp_fractions"},
+    "passes": {"tree_cheapest"},
+    "tables": {"tree_span_cells", "tree_span_table"},
 }
 
 

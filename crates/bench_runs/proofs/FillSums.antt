@@ -1,10 +1,10 @@
 -- At the prices of a fill each tree has a sum.
 use Rattle.std.proofs.Common.{ℕ, ◌+◌, ◌*◌, Some, refl}
 use Rattle.std.specs.Prelude.{IsSome}
-use Rattle.roster_model.specs.declared.grammar.Grammar.{Grammar}
-use Rattle.roster_model.specs.Sums.{plus, parts_sum, tree_sum}
-use Rattle.roster_model.specs.Trees.{Parts, done, letter, uses}
-use Rattle.span_table.specs.Tables.{TableView, IsFilled}
+use Rattle.model_rosters.specs.declared.grammar.Grammar.{Grammar}
+use Rattle.model_rosters.specs.Sums.{plus, parts_sum, tree_sum}
+use Rattle.model_rosters.specs.Trees.{Parts, done, letter, uses}
+use Rattle.tree_span_table.specs.Tables.{TableView, IsFilled}
 use Rattle.check_parts.specs.priced_part.Filled.{IsFilledForAll}
 use Rattle.check_parts.proofs.priced_part.LeastReduced.{plus-some}
 use Rattle.bench_runs.specs.Prices.{price_of, fill_view}

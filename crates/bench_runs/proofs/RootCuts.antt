@@ -4,17 +4,17 @@ use Rattle.std.specs.Prelude.{nat_lt}
 use Rattle.std.proofs.lemmas.Bool.Decides.{nat_tests}
 use Rattle.std.proofs.lemmas.List.{length-map}
 use Rattle.std.proofs.lemmas.List.Elements.{All-head, All-tail}
-use Rattle.roster_model.specs.declared.grammar.Grammar.{Grammar}
-use Rattle.roster_model.specs.declared.instance.Cut.{Cut}
-use Rattle.roster_model.specs.declared.instance.Group.{Group}
-use Rattle.roster_model.specs.declared.instance.Instance.{Instance}
-use Rattle.roster_model.specs.declared.instance.Side.TheVariants.{Low, High}
-use Rattle.roster_model.specs.Cuts.{group_arc, group_cuts, cuts_from, base_cuts}
-use Rattle.roster_model.specs.Extension.{group_rule}
-use Rattle.roster_model.specs.Folds.{sum_n, Each}
-use Rattle.roster_model.specs.SoundInstance.{IsSoundInstance, IsGroup, HasGroups}
-use Rattle.roster_model.proofs.EachLemmas.{Each-append}
-use Rattle.node_master.specs.Ends.{IsNodeCut}
+use Rattle.model_rosters.specs.declared.grammar.Grammar.{Grammar}
+use Rattle.model_rosters.specs.declared.instance.Cut.{Cut}
+use Rattle.model_rosters.specs.declared.instance.Group.{Group}
+use Rattle.model_rosters.specs.declared.instance.Instance.{Instance}
+use Rattle.model_rosters.specs.declared.instance.Side.TheVariants.{Low, High}
+use Rattle.model_rosters.specs.Cuts.{group_arc, group_cuts, cuts_from, base_cuts}
+use Rattle.model_rosters.specs.Extension.{group_rule}
+use Rattle.model_rosters.specs.Folds.{sum_n, Each}
+use Rattle.model_rosters.specs.SoundInstance.{IsSoundInstance, IsGroup, HasGroups}
+use Rattle.model_rosters.proofs.EachLemmas.{Each-append}
+use Rattle.search_masters.specs.Ends.{IsNodeCut}
 
 -- a group has at most 64 employees
 abbrev IsFew : Group → Type 0

@@ -1,9 +1,9 @@
 -- Where a day has an arc it has a tree.
 use Rattle.std.proofs.Common.{◌<◌, arith, List, [], ◌∷◌, length, refl}
-use Rattle.roster_model.specs.declared.grammar.ArcKey.{ArcKey}
-use Rattle.roster_model.specs.declared.grammar.Grammar.{Grammar}
-use Rattle.roster_model.specs.Trees.{Parts, IsDayTree}
-use Rattle.parse_graph.specs.Graphs.{GraphView, HasArcs, IsGraph}
+use Rattle.model_rosters.specs.declared.grammar.ArcKey.{ArcKey}
+use Rattle.model_rosters.specs.declared.grammar.Grammar.{Grammar}
+use Rattle.model_rosters.specs.Trees.{Parts, IsDayTree}
+use Rattle.tree_graph.specs.Graphs.{GraphView, HasArcs, IsGraph}
 
 from-arcs : (g : Grammar) (listed : List ArcKey) → HasArcs g listed → 0 < length listed → (t : Parts) × IsDayTree g t
 from-arcs g [] has some = absurd (omega (arith, some))

@@ -1,6 +1,6 @@
 -- The prices of one fill.
 use Rattle.std.specs.Prelude.{ℕ, ℤ, pos, ◌+◌, ◌*◌, ◌%◌, Some}
-use Rattle.roster_model.specs.Sums.{PriceView}
+use Rattle.model_rosters.specs.Sums.{PriceView}
 
 abbrev pub price_of : ℕ → ℕ → ℤ
 price_of fill number = pos ((fill * 7 + number) % 100)

@@ -1,7 +1,7 @@
 -- Days at whose root a master can be made.
-use Rattle.roster_model.specs.declared.instance.Instance.{Instance}
-use Rattle.roster_model.specs.Trees.{Parts, IsDayTree}
-use Rattle.bound_laws.specs.Infeasible.{IsPlainlyInfeasible}
+use Rattle.model_rosters.specs.declared.instance.Instance.{Instance}
+use Rattle.model_rosters.specs.Trees.{Parts, IsDayTree}
+use Rattle.law_bounds.specs.Infeasible.{IsPlainlyInfeasible}
 
 -- the day has a tree, and neither its head counts nor a cell alone show that no roster is allowed
 pub record IsOpenDay (i : Instance) : Type 0 where

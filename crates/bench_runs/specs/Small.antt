@@ -1,7 +1,7 @@
 -- The prices of a fill are small.
 use Rattle.std.proofs.Common.{ℕ, ◌+◌, ◌*◌, ◌^◌, arith}
 use Rattle.std.proofs.lemmas.Int.{ints}
-use Rattle.roster_model.specs.Sums.{AllWithin, Within}
+use Rattle.model_rosters.specs.Sums.{AllWithin, Within}
 use Rattle.bench_runs.specs.Prices.{price_of, fill_view}
 
 price_small : (fill number : ℕ) → Within (2 ^ 96) (price_of fill number)

@@ -1,9 +1,9 @@
 //! Why a run did nothing.
 
-use demand_text::DemandFault;
-use parse_graph::GraphFault;
-use roster_model::Memory;
-use rules_text::RulesFault;
+use model_rosters::Memory;
+use text_demand::DemandFault;
+use text_rules::RulesFault;
+use tree_graph::GraphFault;
 
 /// Why nothing was done.
 #[derive(Clone, Copy, Debug, Drop)]

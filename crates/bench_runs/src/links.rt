@@ -1,14 +1,14 @@
 //! The graph as lines, for the plain program.
 
-ghost use Rattle.roster_model.specs.Sound.{IsSound};
+ghost use Rattle.model_rosters.specs.Sound.{IsSound};
 
 use crate::fault::BenchFault;
 use crate::pricing::graph_of;
-use parse_graph::{Graph, Kid};
-use roster_model::Grammar;
-use rules_text::read_rules;
+use model_rosters::Grammar;
 use std::fmt::{self, Display, Formatter, Write};
 use std::io;
+use text_rules::read_rules;
+use tree_graph::{Graph, Kid};
 
 /// What is below an arc, as a word: a node by its number, a letter as `code.period`, nothing as `-`.
 #[derive(Clone, Copy, Drop)]

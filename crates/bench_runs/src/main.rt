@@ -27,19 +27,19 @@ mod pricing;
 mod root;
 mod row_steps;
 
-ghost use Rattle.roster_model.specs.Sound.{IsSound};
+ghost use Rattle.model_rosters.specs.Sound.{IsSound};
 
 use fault::BenchFault;
 use links::print_links;
+use model_rosters::Grammar;
 use mults::last_priced;
-use node_master::NodeEnd;
 use pricing::{built, last_cheapest, last_fill};
 use root::{RootEnd, last_root};
-use roster_model::Grammar;
 use row_steps::row_steps;
-use rules_text::read_rules;
+use search_masters::NodeEnd;
 use std::alloc::Global;
 use std::{env, fs, io};
+use text_rules::read_rules;
 
 /// What was found.
 #[derive(Clone, Copy, Drop)]

@@ -1,17 +1,17 @@
 //! Least sums by passes with prices on the arcs of so many cuts.
 
 ghost use Rattle.std.specs.Prelude.{◌≡◌, ◌≤◌, ◌^◌, ◌<◌, All, IfOk, length};
-ghost use Rattle.roster_model.specs.SoundInstance.{IsSoundInstance};
-ghost use Rattle.roster_model.specs.Sums.{Within};
-ghost use Rattle.parse_graph.specs.Graphs.{IsGraph, HasGrammar};
-ghost use Rattle.cheapest_tree.specs.Pricers.{IsMadeFor};
+ghost use Rattle.model_rosters.specs.SoundInstance.{IsSoundInstance};
+ghost use Rattle.model_rosters.specs.Sums.{Within};
+ghost use Rattle.tree_graph.specs.Graphs.{IsGraph, HasGrammar};
+ghost use Rattle.tree_cheapest.specs.Pricers.{IsMadeFor};
 
 use crate::fault::BenchFault;
 use crate::pricing::graph_of;
-use cheapest_tree::Pricer;
-use parse_graph::Graph;
-use roster_model::{Cut, Grammar, Instance, List, Memory, PriceRoom, Side, is_sound_instance};
+use model_rosters::{Cut, Grammar, Instance, List, Memory, PriceRoom, Side, is_sound_instance};
 use std::alloc::Global;
+use tree_cheapest::Pricer;
+use tree_graph::Graph;
 
 /// The day of a grammar, with at most one employee and no demands.
 fn day_of(alloc: Global, grammar: Grammar) -> Result<Instance, BenchFault>

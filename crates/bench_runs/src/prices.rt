@@ -3,7 +3,7 @@
 ghost use Rattle.std.specs.Prelude.{◌≡◌};
 ghost use Rattle.bench_runs.specs.Prices.{price_of};
 
-use roster_model::{ArcKey, ArcPrice, LetterPrice};
+use model_rosters::{ArcKey, ArcPrice, LetterPrice};
 
 /// The prices of one fill: those of letters and rules are 0 to 99, by their numbers and the number of
 /// the fill. Arcs cost nothing.

@@ -1,19 +1,19 @@
 //! Least sums by the table, and by passes over the graph.
 
 ghost use Rattle.std.specs.Prelude.{IfOk};
-ghost use Rattle.roster_model.specs.Sound.{IsSound};
-ghost use Rattle.parse_graph.specs.Graphs.{HasGrammar, IsGraph};
-ghost use Rattle.span_table.specs.Tables.{IsMadeFor};
-ghost use Rattle.cheapest_tree.specs.Pricers.{IsMadeFor as IsPricerFor};
+ghost use Rattle.model_rosters.specs.Sound.{IsSound};
+ghost use Rattle.tree_graph.specs.Graphs.{HasGrammar, IsGraph};
+ghost use Rattle.tree_span_table.specs.Tables.{IsMadeFor};
+ghost use Rattle.tree_cheapest.specs.Pricers.{IsMadeFor as IsPricerFor};
 
 use crate::fault::BenchFault;
 use crate::prices::FillPrices;
-use cheapest_tree::Pricer;
-use parse_graph::Graph;
-use roster_model::Grammar;
-use span_table::Table;
+use model_rosters::Grammar;
 use std::alloc::Global;
+use tree_cheapest::Pricer;
+use tree_graph::Graph;
 use tree_pool::normalise;
+use tree_span_table::Table;
 
 /// Fills the grammar's table so often, and returns the last least sum.
 fn filled(grammar: &Grammar, table: &mut Table, times: u32) -> Option<i128>

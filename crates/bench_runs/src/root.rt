@@ -2,32 +2,32 @@
 
 ghost use Rattle.std.specs.Prelude.{◌≡◌, ◌≤◌, ◌<◌, ◌^◌, length, IfOk};
 ghost use Rattle.std.specs.Bool.{OnTrue};
-ghost use Rattle.roster_model.specs.Folds.{Each};
-ghost use Rattle.roster_model.specs.Sound.{IsSound};
-ghost use Rattle.roster_model.specs.SoundInstance.{IsSoundInstance};
-ghost use Rattle.roster_model.specs.Trees.{Parts, IsDayTree};
-ghost use Rattle.bound_laws.specs.Infeasible.{IsPlainlyInfeasible};
-ghost use Rattle.parse_graph.specs.Graphs.{IsGraph};
-ghost use Rattle.cheapest_tree.specs.Pricers.{IsMadeFor};
+ghost use Rattle.model_rosters.specs.Folds.{Each};
+ghost use Rattle.model_rosters.specs.Sound.{IsSound};
+ghost use Rattle.model_rosters.specs.SoundInstance.{IsSoundInstance};
+ghost use Rattle.model_rosters.specs.Trees.{Parts, IsDayTree};
+ghost use Rattle.law_bounds.specs.Infeasible.{IsPlainlyInfeasible};
+ghost use Rattle.tree_graph.specs.Graphs.{IsGraph};
+ghost use Rattle.tree_cheapest.specs.Pricers.{IsMadeFor};
 ghost use Rattle.check_parts.specs.priced_part.Filled.{TellsDerived};
-ghost use Rattle.node_master.specs.Ends.{IsNodeCut};
+ghost use Rattle.search_masters.specs.Ends.{IsNodeCut};
 ghost use Rattle.bench_runs.specs.Roots.{IsOpenDay};
 
 use crate::fault::BenchFault;
 use crate::prices::FillPrices;
 use crate::pricing::graph_of;
-use base_cuts::push_base_cuts;
-use cheapest_tree::Pricer;
 use check_parts::{derived_names, is_plainly_infeasible};
-use demand_text::read_demand;
-use fraction::Tally;
-use master_rows::count_rows;
-use node_master::{NodeEnd, Pool, solve_node};
-use parse_graph::Graph;
-use roster_model::{Cut, Grammar, Instance, MOST_NAMES, Memory};
-use rules_text::read_rules;
-use span_table::Table;
+use law_base_cuts::push_base_cuts;
+use lp_fractions::Tally;
+use lp_master_rows::count_rows;
+use model_rosters::{Cut, Grammar, Instance, MOST_NAMES, Memory};
+use search_masters::{NodeEnd, Pool, solve_node};
 use std::alloc::Global;
+use text_demand::read_demand;
+use text_rules::read_rules;
+use tree_cheapest::Pricer;
+use tree_graph::Graph;
+use tree_span_table::Table;
 
 /// How many cuts the ranges of groups say at most.
 const MOST_CUTS: usize = 16;

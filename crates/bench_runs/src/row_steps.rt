@@ -2,7 +2,7 @@
 
 ghost use Rattle.std.specs.Prelude.{◌≡◌, length};
 
-use fraction::{Tally, row_step};
+use lp_fractions::{Tally, row_step};
 use std::alloc::{AllocError, Global};
 
 /// Fills a row with numbers from -500 to 499, each times the factor.

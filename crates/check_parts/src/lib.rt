@@ -14,6 +14,6 @@ pub use priced_part::{
     derived_names, is_plainly_infeasible, lagrangian_sum, priced_value, value_from_least,
 };
 pub use roster_part::{
-    ShiftRoom, StatedShift, Team, coverage_fault, heads_fault, least_price, roster_fault,
+    ShiftWorkspace, StatedShift, Team, coverage_fault, heads_fault, least_price, roster_fault,
     stated_cost, team_at, team_count,
 };

@@ -1,32 +1,32 @@
 -- The same texts have the same answer.
 use Rattle.std.proofs.Common.{sym, ◌∙◌, Some}
-use Rattle.text_commands.specs.Check.{Judgement}
-use Rattle.answers.specs.Asked.{ProofAnswers}
-use Rattle.text_commands.specs.Days.{RankFrom, NextFrom, FitsFrom}
-use Rattle.day_questions.specs.Ranked.{RankedAnswer}
-use Rattle.day_questions.specs.Next.{NextAnswer}
-use Rattle.day_questions.specs.Fitting.{FitsAnswer}
-use Rattle.day_questions.proofs.OnceLemmas.{one-ranked, one-next, one-fits}
-use Rattle.search_commands.specs.Reuse.{Reusing}
+use Rattle.command_texts.specs.Check.{Judgement}
+use Rattle.command_answers.specs.Asked.{ProofAnswers}
+use Rattle.command_texts.specs.Days.{RankFrom, NextFrom, FitsFrom}
+use Rattle.tree_questions.specs.Ranked.{RankedAnswer}
+use Rattle.tree_questions.specs.Next.{NextAnswer}
+use Rattle.tree_questions.specs.Fitting.{FitsAnswer}
+use Rattle.tree_questions.proofs.OnceLemmas.{one-ranked, one-next, one-fits}
+use Rattle.command_searches.specs.Reuse.{Reusing}
 use Rattle.command_line.specs.Form.{Form, explain, rank, next, fits, check, value, rest, relax_rules, relax_demand, reuse, solve, curve, make, none}
 use Rattle.command_line.specs.OneAnswer.{HasOneAnswer}
-use Rattle.search_commands.proofs.OneEndLemmas.{solve-ends, make-ends}
-use Rattle.search_commands.proofs.CurveEnds.{curve-ends}
-use Rattle.search_commands.proofs.SolveLemmas.{as-parts}
-use Rattle.search_commands.proofs.CurveLemmas.{as-curve-parts}
-use Rattle.search_commands.proofs.ReuseLemmas.{reused-once}
-use Rattle.search_commands.specs.Series.{answered}
-use Rattle.text_commands.specs.relax.Answers.{RelaxedRules, RelaxedDemand}
-use Rattle.text_commands.proofs.relax.Relaxings.{day-once, freed-once, relaxed-once}
-use Rattle.text_commands.specs.what_if.Rest.{Resting}
-use Rattle.text_commands.specs.what_if.Value.{Valuation}
-use Rattle.text_commands.proofs.what_if.Rests.{resting-once}
-use Rattle.text_commands.proofs.what_if.Values.{value-once}
-use Rattle.text_commands.proofs.OnceLemmas.{judged-once, explain-once, from-once, held-once}
-use Rattle.answers.proofs.OnceLemmas.{proof-once, texts-once}
-use Rattle.answers.proofs.SaysLemmas.{as-texts, as-cert-texts}
-use Rattle.text_commands.proofs.SaysLemmas.{as-day}
-use Rattle.text_commands.specs.Explain.{DerivationFrom}
+use Rattle.command_searches.proofs.OneEndLemmas.{solve-ends, make-ends}
+use Rattle.command_searches.proofs.CurveEnds.{curve-ends}
+use Rattle.command_searches.proofs.SolveLemmas.{as-parts}
+use Rattle.command_searches.proofs.CurveLemmas.{as-curve-parts}
+use Rattle.command_searches.proofs.ReuseLemmas.{reused-once}
+use Rattle.command_searches.specs.Series.{answered}
+use Rattle.command_texts.specs.relax.Answers.{RelaxedRules, RelaxedDemand}
+use Rattle.command_texts.proofs.relax.Relaxings.{day-once, freed-once, relaxed-once}
+use Rattle.command_texts.specs.what_if.Rest.{Resting}
+use Rattle.command_texts.specs.what_if.Value.{Valuation}
+use Rattle.command_texts.proofs.what_if.Rests.{resting-once}
+use Rattle.command_texts.proofs.what_if.Values.{value-once}
+use Rattle.command_texts.proofs.OnceLemmas.{judged-once, explain-once, from-once, held-once}
+use Rattle.command_answers.proofs.OnceLemmas.{proof-once, texts-once}
+use Rattle.command_answers.proofs.SaysLemmas.{as-texts, as-cert-texts}
+use Rattle.command_texts.proofs.SaysLemmas.{as-day}
+use Rattle.command_texts.specs.Explain.{DerivationFrom}
 
 pub has-one-answer : (f : Form) → HasOneAnswer f
 has-one-answer (explain rules word start) =

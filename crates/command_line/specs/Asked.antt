@@ -1,7 +1,7 @@
 -- The form that a value of the program stands for.
 use Rattle.std.specs.Prelude.{ℕ, ◌≤◌}
 use Rattle.std.specs.Option.{option_copied}
-use Rattle.search_commands.specs.Limits.{IsLimit}
+use Rattle.command_searches.specs.Limits.{IsLimit}
 use Rattle.command_line.specs.declared.form.Form as program
 use Rattle.command_line.specs.declared.form.Form.TheVariants as variants
 use Rattle.command_line.specs.Form.{Form, explain, rank, next, fits, check, value, rest, relax_rules, relax_demand, reuse, solve, curve, make, none}

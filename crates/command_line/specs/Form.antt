@@ -2,10 +2,10 @@
 use Rattle.std.specs.Prelude.{ℕ, ◌-◌, List, [], ◌∷◌, Option, None, Some, Result, Ok, Err, codes, cond, drop, length, take, if◌then◌else◌}
 use Rattle.std.specs.Str.{bytes_eq}
 use Rattle.text_lines.specs.Fields.{number_at}
-use Rattle.relaxed_days.specs.declared.kind.Kind.{Kind}
-use Rattle.relaxed_days.specs.declared.kind.Kind.TheVariants.{Floors, Ceilings}
-use Rattle.search_commands.specs.declared.limit.Limit.{Limit}
-use Rattle.search_commands.specs.declared.limit.Limit.TheVariants.{Turns, Seconds}
+use Rattle.text_relaxed_days.specs.declared.kind.Kind.{Kind}
+use Rattle.text_relaxed_days.specs.declared.kind.Kind.TheVariants.{Floors, Ceilings}
+use Rattle.command_searches.specs.declared.limit.Limit.{Limit}
+use Rattle.command_searches.specs.declared.limit.Limit.TheVariants.{Turns, Seconds}
 
 -- the words `explain RULES WORD`, `rank RULES MOST`, `next RULES PREFIX`, `fits RULES PATTERN`, each of these with
 -- a NAME of the rules behind or without, `check RULES DEMAND PROOF`, `value RULES DEMAND ROSTER`,

@@ -1,24 +1,24 @@
 -- The same texts have the same answer.
 use Rattle.std.specs.Prelude.{ℕ, ◌≡◌, List, Some}
-use Rattle.shelf.specs.Shelf.{Texts}
-use Rattle.text_commands.specs.Check.{Judgement}
-use Rattle.text_commands.specs.Days.{RankFrom, NextFrom, FitsFrom}
-use Rattle.text_commands.specs.Explain.{DerivationFrom}
-use Rattle.answers.specs.RulesCommands.{RulesCommand}
-use Rattle.answers.specs.Says.{CertCommand}
-use Rattle.text_commands.specs.Start.{AnswersNoForm}
-use Rattle.answers.specs.TextCommands.{TextCommand}
-use Rattle.text_commands.specs.relax.Answers.{RelaxedRules, RelaxedDemand}
-use Rattle.text_commands.specs.relax.DayCommands.{DayCommand}
-use Rattle.text_commands.specs.what_if.Rest.{Resting}
-use Rattle.text_commands.specs.what_if.Value.{Valuation}
-use Rattle.text_commands.specs.SameTexts.{AreSameButTree}
+use Rattle.command_shelf.specs.Shelf.{Texts}
+use Rattle.command_texts.specs.Check.{Judgement}
+use Rattle.command_texts.specs.Days.{RankFrom, NextFrom, FitsFrom}
+use Rattle.command_texts.specs.Explain.{DerivationFrom}
+use Rattle.command_answers.specs.RulesCommands.{RulesCommand}
+use Rattle.command_answers.specs.Says.{CertCommand}
+use Rattle.command_texts.specs.Start.{AnswersNoForm}
+use Rattle.command_answers.specs.TextCommands.{TextCommand}
+use Rattle.command_texts.specs.relax.Answers.{RelaxedRules, RelaxedDemand}
+use Rattle.command_texts.specs.relax.DayCommands.{DayCommand}
+use Rattle.command_texts.specs.what_if.Rest.{Resting}
+use Rattle.command_texts.specs.what_if.Value.{Valuation}
+use Rattle.command_texts.specs.SameTexts.{AreSameButTree}
 use Rattle.command_line.specs.Form.{Form, explain, rank, next, fits, check, value, rest, relax_rules, relax_demand, reuse, solve, curve, make, none}
-use Rattle.search_commands.specs.CurveAnswers.{CurveAnswers}
-use Rattle.search_commands.specs.Make.{AnswersMake}
-use Rattle.search_commands.specs.Reuse.{Reusing}
-use Rattle.search_commands.specs.OneEnd.{HaveOneEnd, HasOneEnd}
-use Rattle.search_commands.specs.SolveAnswers.{SolveAnswers}
+use Rattle.command_searches.specs.CurveAnswers.{CurveAnswers}
+use Rattle.command_searches.specs.Make.{AnswersMake}
+use Rattle.command_searches.specs.Reuse.{Reusing}
+use Rattle.command_searches.specs.OneEnd.{HaveOneEnd, HasOneEnd}
+use Rattle.command_searches.specs.SolveAnswers.{SolveAnswers}
 
 -- whatever two answers the words allow over the same texts, their statuses are equal, and what is said
 -- is equal too, but for the tree of `explain` and for what a search finds

@@ -1,26 +1,26 @@
 -- What the program does, by its words.
 use Rattle.std.specs.Prelude.{ℕ, [], ◌∷◌}
 use Rattle.command_line.specs.Form.{Form, explain, rank, next, fits, check, value, rest, relax_rules, relax_demand, reuse, solve, curve, make, none}
-use Rattle.shelf.specs.Shelf.{Told}
-use Rattle.text_commands.specs.Check.{Judgement}
-use Rattle.text_commands.specs.Days.{RankFrom, NextFrom, FitsFrom}
-use Rattle.text_commands.specs.Explain.{DerivationFrom}
-use Rattle.answers.specs.Reader.{IsReader}
-use Rattle.answers.specs.RulesCommands.{RulesCommand}
-use Rattle.answers.specs.Says.{CertCommand}
-use Rattle.text_commands.specs.Start.{AnswersNoForm}
-use Rattle.answers.specs.TextCommands.{TextCommand}
-use Rattle.search_commands.specs.CurveAnswers.{CurveAnswers, MayStoreDay}
-use Rattle.search_commands.specs.Make.{AnswersMake}
-use Rattle.search_commands.specs.Reuse.{Reusing}
-use Rattle.search_commands.specs.Series.{IsSeriesWriter}
-use Rattle.search_commands.specs.Solve.{MasterView, from_names}
-use Rattle.search_commands.specs.SolveAnswers.{SolveAnswers}
-use Rattle.search_commands.specs.Writer.{IsWriter}
-use Rattle.text_commands.specs.relax.Answers.{RelaxedRules, RelaxedDemand}
-use Rattle.text_commands.specs.relax.DayCommands.{DayCommand}
-use Rattle.text_commands.specs.what_if.Rest.{Resting}
-use Rattle.text_commands.specs.what_if.Value.{Valuation}
+use Rattle.command_shelf.specs.Shelf.{Told}
+use Rattle.command_texts.specs.Check.{Judgement}
+use Rattle.command_texts.specs.Days.{RankFrom, NextFrom, FitsFrom}
+use Rattle.command_texts.specs.Explain.{DerivationFrom}
+use Rattle.command_answers.specs.Reader.{IsReader}
+use Rattle.command_answers.specs.RulesCommands.{RulesCommand}
+use Rattle.command_answers.specs.Says.{CertCommand}
+use Rattle.command_texts.specs.Start.{AnswersNoForm}
+use Rattle.command_answers.specs.TextCommands.{TextCommand}
+use Rattle.command_searches.specs.CurveAnswers.{CurveAnswers, MayStoreDay}
+use Rattle.command_searches.specs.Make.{AnswersMake}
+use Rattle.command_searches.specs.Reuse.{Reusing}
+use Rattle.command_searches.specs.Series.{IsSeriesWriter}
+use Rattle.command_searches.specs.Solve.{MasterView, from_names}
+use Rattle.command_searches.specs.SolveAnswers.{SolveAnswers}
+use Rattle.command_searches.specs.Writer.{IsWriter}
+use Rattle.command_texts.specs.relax.Answers.{RelaxedRules, RelaxedDemand}
+use Rattle.command_texts.specs.relax.DayCommands.{DayCommand}
+use Rattle.command_texts.specs.what_if.Rest.{Resting}
+use Rattle.command_texts.specs.what_if.Value.{Valuation}
 
 -- over a shelf before and after, and with a master that was lent
 abbrev pub Does : Form → Told → Told → MasterView → ℕ → Type 0

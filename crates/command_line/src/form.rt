@@ -2,7 +2,7 @@
 
 ghost use Rattle.std.specs.Prelude.{◌≡◌, IfSome, map, string_bytes};
 ghost use Rattle.std.specs.Option.{option_copied};
-ghost use Rattle.search_commands.specs.Limits.{IsLimit};
+ghost use Rattle.command_searches.specs.Limits.{IsLimit};
 ghost use Rattle.command_line.specs.Form.{
   before_s,
   curve_form,
@@ -24,9 +24,9 @@ ghost use Rattle.command_line.specs.Form.{
 };
 ghost use Rattle.command_line.specs.Asked.{asked, HasNumbers, IsMost};
 
-use relaxed_days::Kind;
-use search_commands::limit::Limit;
+use command_searches::limit::Limit;
 use text_lines::read_within;
+use text_relaxed_days::Kind;
 
 /// What the words of the command line ask for.
 #[derive(Clone, Copy, Drop)]
@@ -77,14 +77,15 @@ pub enum Form<'a> {
     RelaxRules {
         rules: &'a str,
     },
-    /// The day of the rules and demand texts under names with its floors, or its ceilings, counted in place of being
-    /// strict.
+    /// The day of the rules and demand texts under names with its floors, or its ceilings, counted in place
+    /// of being strict.
     RelaxDemand {
         rules: &'a str,
         demand: &'a str,
         kind: Kind,
     },
-    /// What the nodes of a certificate show on a day that it need not have been found for, by the texts of a check.
+    /// What the nodes of a certificate show on a day that it need not have been found for, by the texts of a
+    /// check.
     Reuse {
         rules: &'a str,
         demand: &'a str,
@@ -100,8 +101,8 @@ pub enum Form<'a> {
         /// The name of the proof text of an old certificate, with which the search begins.
         from: Option<&'a str>,
     },
-    /// The same for each greatest head count of the day, or of the group of a name; the certificates are stored under
-    /// the name of the proof, a full stop and the head count.
+    /// The same for each greatest head count of the day, or of the group of a name; the certificates are
+    /// stored under the name of the proof, a full stop and the head count.
     Curve {
         rules: &'a str,
         demand: &'a str,

@@ -3,7 +3,7 @@
 ghost use Rattle.std.specs.Prelude.{◌≡◌};
 
 use crate::form::{kind_of, limit_of, most_of, number_of_make};
-use shelf::Shelf;
+use command_shelf::Shelf;
 
 /// The forms of the command line, one a line.
 const FORMS: &str = "the forms are:
@@ -53,7 +53,8 @@ fn wrong<T: Drop>(number: Option<T>, note: &'static str) -> Option<&'static str>
     }
 }
 
-// Returns which number, or which bounds, of words that begin and end as a form does is none that may stand there.
+// Returns which number, or which bounds, of words that begin and end as a form does is none that may stand
+// there.
 fn wrong_number(words: &[String]) -> Option<&'static str> {
     match words {
         [command, _, most] | [command, _, most, _] if command.as_str() == "rank" => {

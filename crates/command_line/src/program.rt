@@ -4,30 +4,30 @@ ghost use Rattle.std.specs.Prelude.{[], map, string_bytes};
 ghost use Rattle.command_line.specs.Form.{form_of};
 ghost use Rattle.command_line.specs.OneAnswer.{HasOneAnswer};
 ghost use Rattle.command_line.specs.Run.{Does};
-ghost use Rattle.answers.specs.Reader.{IsReader};
-ghost use Rattle.text_commands.specs.Start.{AnswersNoForm};
-ghost use Rattle.search_commands.specs.Solve.{lent};
+ghost use Rattle.command_answers.specs.Reader.{IsReader};
+ghost use Rattle.command_texts.specs.Start.{AnswersNoForm};
+ghost use Rattle.command_searches.specs.Solve.{lent};
 
 use crate::form::{Form, form_of};
 use crate::notes::note_forms;
-use answers::say;
-use branch_price::{Master, Watch};
-use search_commands::curve::curve;
-use search_commands::make::make;
-use search_commands::reuse::reuse;
-use search_commands::solve::solve;
-use shelf::Shelf;
+use command_answers::say;
+use command_searches::curve::curve;
+use command_searches::make::make;
+use command_searches::reuse::reuse;
+use command_searches::solve::solve;
+use command_shelf::Shelf;
+use command_texts::check::check;
+use command_texts::explain::explain;
+use command_texts::fits::fits;
+use command_texts::next::next;
+use command_texts::rank::rank;
+use command_texts::relax::demand::relax_demand;
+use command_texts::relax::rules::relax_rules;
+use command_texts::start::NO_FORM;
+use command_texts::what_if::rest::rest;
+use command_texts::what_if::value::value;
+use search_branch_price::{Master, Watch};
 use std::alloc::Global;
-use text_commands::check::check;
-use text_commands::explain::explain;
-use text_commands::fits::fits;
-use text_commands::next::next;
-use text_commands::rank::rank;
-use text_commands::relax::demand::relax_demand;
-use text_commands::relax::rules::relax_rules;
-use text_commands::start::NO_FORM;
-use text_commands::what_if::rest::rest;
-use text_commands::what_if::value::value;
 
 // Says that words have no form.
 fn say_no_form<S: Shelf>(shelf: &mut S) -> u8
@@ -61,17 +61,17 @@ fn refuse_words<S: Shelf>(shelf: &mut S, words: &[String]) -> u8
 ///
 /// LIMIT is a number of turns from 1 to 10,000, or one of seconds from 1 to 86,400 with an s behind it; the
 /// watch is told of a search between its turns, and asked within them too. MOST is one from 1 to 1,000, and
-/// NUMBER one from 0 to 4,294,967,295. KIND is `floors` or `ceilings`. In PATTERN `#` stands for any code. `explain`, `rank`, `next` and
-/// `fits` take a name of the rules as a last word, from which they derive then in place of the start name.
-/// `curve` takes the name of a group of the demand, whose greatest number it varies, and `solve` the name
-/// FROM of an old certificate: what it finds costs no more than the roster of that, where this is allowed on
-/// the day. A command says its whole answer at once; `solve` and `make` have stored the certificate under
-/// PROOF before, and `curve` those of its points under PROOF, a full stop and the head count. Status 6 or 7
-/// ends it at the call that was refused, but where `solve` and `make` are refused to store the certificate:
-/// then they say their answer all the same, with status 6. But for these two any two answers over the same
-/// texts have the same status and say the same, save that `explain` may print another tree of the same cost,
-/// and that a search may use up its turns; two searches with status 0 say the same cost and bound, and may
-/// find different rosters and process different nodes.
+/// NUMBER one from 0 to 4,294,967,295. KIND is `floors` or `ceilings`. In PATTERN `#` stands for any code.
+/// `explain`, `rank`, `next` and `fits` take a name of the rules as a last word, from which they derive then
+/// in place of the start name. `curve` takes the name of a group of the demand, whose greatest number it
+/// varies, and `solve` the name FROM of an old certificate: what it finds costs no more than the roster of
+/// that, where this is allowed on the day. A command says its whole answer at once; `solve` and `make` have
+/// stored the certificate under PROOF before, and `curve` those of its points under PROOF, a full stop and
+/// the head count. Status 6 or 7 ends it at the call that was refused, but where `solve` and `make` are
+/// refused to store the certificate: then they say their answer all the same, with status 6. But for these
+/// two any two answers over the same texts have the same status and say the same, save that `explain` may
+/// print another tree of the same cost, and that a search may use up its turns; two searches with status 0
+/// say the same cost and bound, and may find different rosters and process different nodes.
 pub fn run<S: Shelf, M: Master, W: Watch>(
     alloc: Global,
     shelf: &mut S,

@@ -1,34 +1,34 @@
 -- The answers to a proof text or a report, from what the parts answer.
 use Rattle.std.proofs.Common.{◌≡◌, ◌≢◌, ℕ, true, false, List, Option, Some, Result, Ok, Err, IfOk}
-use Rattle.roster_model.specs.declared.instance.Instance.{Instance}
-use Rattle.roster_model.specs.declared.instance.Shift.{Shift}
-use Rattle.roster_model.specs.declared.memory.Memory.{Memory}
-use Rattle.certificates.specs.declared.cert.Cert.{Cert}
-use Rattle.certificates.specs.declared.verdict.Verdict.{Verdict}
-use Rattle.certificates.specs.declared.verdict.Verdict.TheVariants.{Yes, No}
-use Rattle.certificates.specs.declared.why.Why.{Why}
-use Rattle.certificates.specs.certificate_laws.Accepted.{Accepts}
-use Rattle.proof_check.specs.declared.judged.Judged.TheVariants.{Said, Fault}
-use Rattle.proof_check.specs.Judging.{IsJudged}
-use Rattle.proof_pieces.specs.CertOf.{proof_of, proof_fault}
-use Rattle.proof_pieces.specs.FaultLine as proof
-use Rattle.proof_pieces.specs.declared.fault.PieceFault.{PieceFault}
-use Rattle.answer_texts.specs.VerdictText.{verdict_text}
+use Rattle.model_rosters.specs.declared.instance.Instance.{Instance}
+use Rattle.model_rosters.specs.declared.instance.Shift.{Shift}
+use Rattle.model_rosters.specs.declared.memory.Memory.{Memory}
+use Rattle.check_certificates.specs.declared.cert.Cert.{Cert}
+use Rattle.check_certificates.specs.declared.verdict.Verdict.{Verdict}
+use Rattle.check_certificates.specs.declared.verdict.Verdict.TheVariants.{Yes, No}
+use Rattle.check_certificates.specs.declared.why.Why.{Why}
+use Rattle.check_certificates.specs.certificate_laws.Accepted.{Accepts}
+use Rattle.check_proofs.specs.declared.judged.Judged.TheVariants.{Said, Fault}
+use Rattle.check_proofs.specs.Judging.{IsJudged}
+use Rattle.text_proof_pieces.specs.CertOf.{proof_of, proof_fault}
+use Rattle.text_proof_pieces.specs.FaultLine as proof
+use Rattle.text_proof_pieces.specs.declared.fault.PieceFault.{PieceFault}
+use Rattle.text_answers.specs.VerdictText.{verdict_text}
 use Rattle.page_labels.specs.LabelsOf.{labels_of}
 use Rattle.page_labels.specs.declared.labels.Labels.{Labels}
-use Rattle.roster_value.specs.Answers.{StatedAnswer}
-use Rattle.roster_value.specs.Answers as values
-use Rattle.roster_value.specs.Values.{AreCauses, IsValued}
-use Rattle.roster_value.specs.declared.cause.Cause.{Cause}
-use Rattle.roster_value.specs.declared.valued.Valued.{Valued}
-use Rattle.roster_value.proofs.ValuedRosters.{value-costs}
-use Rattle.roster_value.specs.stated_rosters.FaultLine as roster
-use Rattle.roster_value.specs.stated_rosters.RosterOf.{roster_of}
-use Rattle.roster_value.specs.declared.stated_rosters.fault.RosterFault.{RosterFault}
-use Rattle.roster_value.specs.declared.stated_rosters.fault.RosterFault.TheVariants as roster_faults
-use Rattle.answers.specs.declared.answer.Answer.{Answer}
-use Rattle.answers.specs.Asked.{ProofAnswers}
-use Rattle.answers.specs.Asked as asked
+use Rattle.check_values.specs.Answers.{StatedAnswer}
+use Rattle.check_values.specs.Answers as values
+use Rattle.check_values.specs.Values.{AreCauses, IsValued}
+use Rattle.check_values.specs.declared.cause.Cause.{Cause}
+use Rattle.check_values.specs.declared.valued.Valued.{Valued}
+use Rattle.check_values.proofs.ValuedRosters.{value-costs}
+use Rattle.check_values.specs.stated_rosters.FaultLine as roster
+use Rattle.check_values.specs.stated_rosters.RosterOf.{roster_of}
+use Rattle.check_values.specs.declared.stated_rosters.fault.RosterFault.{RosterFault}
+use Rattle.check_values.specs.declared.stated_rosters.fault.RosterFault.TheVariants as roster_faults
+use Rattle.command_answers.specs.declared.answer.Answer.{Answer}
+use Rattle.command_answers.specs.Asked.{ProofAnswers}
+use Rattle.command_answers.specs.Asked as asked
 use Rattle.page_command.specs.Check.{BesideAnswers, LabelAnswers, OldAnswers, RefusedLabels, SaysLabelFault}
 use Rattle.page_command.specs.Check as check
 use Rattle.page_command.specs.Judgement.{Judgement, StatedJudgement}
@@ -36,8 +36,8 @@ use Rattle.page_command.specs.Judgement as judgement
 use Rattle.page_command.specs.Old.{RefusedOld, SaysOldFault, old_of}
 use Rattle.page_command.specs.Report.{LineAnswers, ReportAnswers, RosterAnswers, is_report}
 use Rattle.page_command.specs.Report as report
-use Rattle.roster_views.specs.Shown.{Showing, certified, stated}
-use Rattle.roster_views.specs.declared.kind.Kind.{Kind}
+use Rattle.page_views.specs.Shown.{Showing, certified, stated}
+use Rattle.page_views.specs.declared.kind.Kind.{Kind}
 
 -- the text tells a certificate that is accepted, where the verdict is a yes
 pub yes-accepted : (i : Instance) (text : List ℕ) (cost bound : Option ℕ) → IsJudged i text (Said (Yes cost bound)) → (c : Cert) × (proof_of i text ≡ Ok c) × Accepts i c

@@ -1,17 +1,17 @@
 -- The answers to a proof text or a report by a day, from what the parts answer.
 use Rattle.std.proofs.Common.{◌≡◌, ℕ, List, None, Some, Result, Ok, Err, IfOk}
-use Rattle.roster_model.specs.declared.instance.Instance.{Instance}
-use Rattle.roster_model.specs.declared.memory.Memory.{Memory}
+use Rattle.model_rosters.specs.declared.instance.Instance.{Instance}
+use Rattle.model_rosters.specs.declared.memory.Memory.{Memory}
 use Rattle.page_labels.specs.LabelsOf.{labels_of}
 use Rattle.page_labels.specs.declared.clock.Clock.{Clock}
 use Rattle.page_labels.specs.declared.labels.Labels.{Labels}
-use Rattle.answers.specs.declared.answer.Answer.{Answer}
-use Rattle.roster_views.specs.declared.kind.CalendarDay.{CalendarDay}
+use Rattle.command_answers.specs.declared.answer.Answer.{Answer}
+use Rattle.page_views.specs.declared.kind.CalendarDay.{CalendarDay}
 use Rattle.page_command.specs.Check.{RefusedLabels}
 use Rattle.page_command.specs.Dated.{CalendarAnswers, ClockAnswers, no_clock_line, events_on}
 use Rattle.page_command.specs.Dated as dated
 use Rattle.page_command.specs.Report.{LineAnswers, RosterAnswers}
-use Rattle.roster_views.specs.declared.kind.Kind.TheVariants.{Calendar}
+use Rattle.page_views.specs.declared.kind.Kind.TheVariants.{Calendar}
 
 pub clock-told : (day : CalendarDay) (d : Labels) (c : Clock) (i : Instance) (text : List ℕ) (r : Result Answer Memory) → d.clock ≡ Some c
     → IfOk r (λ a. RosterAnswers (Calendar (events_on day c)) d None i text a.status a.output)

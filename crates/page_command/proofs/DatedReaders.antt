@@ -1,13 +1,13 @@
 -- Readers that fetch the texts of a calendar, one after another.
 use Rattle.std.proofs.Common.{ℕ, List, [], ◌∷◌, Option, subst, inl, inr}
-use Rattle.shelf.specs.Shelf.{Texts, Told, front_to}
-use Rattle.answers.specs.Asked.{TextsAnswers}
-use Rattle.answers.specs.Fetch.{IsFetchTo}
-use Rattle.answers.specs.Fronts.{front-cases}
-use Rattle.answers.proofs.AskedFronts.{texts-map, long-texts-demand, long-texts-rules}
-use Rattle.answers.specs.Reader.{IsReader}
-use Rattle.answers.proofs.Readers.{after_fetch, widen}
-use Rattle.roster_views.specs.declared.kind.CalendarDay.{CalendarDay}
+use Rattle.command_shelf.specs.Shelf.{Texts, Told, front_to}
+use Rattle.command_answers.specs.Asked.{TextsAnswers}
+use Rattle.command_answers.specs.Fetch.{IsFetchTo}
+use Rattle.command_answers.specs.Fronts.{front-cases}
+use Rattle.command_answers.proofs.AskedFronts.{texts-map, long-texts-demand, long-texts-rules}
+use Rattle.command_answers.specs.Reader.{IsReader}
+use Rattle.command_answers.proofs.Readers.{after_fetch, widen}
+use Rattle.page_views.specs.declared.kind.CalendarDay.{CalendarDay}
 use Rattle.page_command.specs.Dated.{AnswersDated, AnswersDatedLabels, AnswersDatedTexts, CalendarAnswers}
 use Rattle.page_command.specs.DatedFronts.{calendar-labels-whole}
 

@@ -1,29 +1,29 @@
 -- Readers that fetch the texts of a request, one after another.
 use Rattle.std.proofs.Common.{◌≡◌, ◌≢◌, ◌<◌, ℕ, List, [], ◌∷◌, Option, None, Some, Result, Ok, Err, IfOk, length, subst, ◌∙◌, inl, inr}
-use Rattle.roster_model.specs.declared.grammar.Grammar.{Grammar}
-use Rattle.roster_model.specs.declared.instance.Instance.{Instance}
-use Rattle.roster_model.specs.declared.memory.Memory.{Memory}
-use Rattle.roster_model.specs.Sound.{IsSound}
-use Rattle.rules_text.specs.FaultLine.{fault_line}
-use Rattle.rules_text.specs.RulesOf.{IsReading}
-use Rattle.rules_text.specs.declared.fault.RulesFault.{RulesFault}
-use Rattle.rules_text.specs.declared.fault.RulesFault.TheVariants as rules_faults
-use Rattle.shelf.specs.Shelf.{Texts, Told, front_to}
-use Rattle.answers.specs.declared.answer.Answer.{Answer}
-use Rattle.answers.specs.Asked.{TextAnswers, AnswersThird, DemandAnswers}
-use Rattle.answers.specs.Asked as asked
-use Rattle.answers.specs.DemandFronts.{demand-fault-whole, long-demand}
-use Rattle.answers.specs.Fetch.{IsAnswer, IsFetchTo}
-use Rattle.answers.specs.Fronts.{front-cases}
-use Rattle.answers.specs.Reader.{IsReader}
-use Rattle.answers.specs.RulesFronts.{fault-whole, long-rules}
-use Rattle.answers.proofs.AskedLemmas.{no_names}
-use Rattle.answers.proofs.Readers.{after_fetch, widen}
+use Rattle.model_rosters.specs.declared.grammar.Grammar.{Grammar}
+use Rattle.model_rosters.specs.declared.instance.Instance.{Instance}
+use Rattle.model_rosters.specs.declared.memory.Memory.{Memory}
+use Rattle.model_rosters.specs.Sound.{IsSound}
+use Rattle.text_rules.specs.FaultLine.{fault_line}
+use Rattle.text_rules.specs.RulesOf.{IsReading}
+use Rattle.text_rules.specs.declared.fault.RulesFault.{RulesFault}
+use Rattle.text_rules.specs.declared.fault.RulesFault.TheVariants as rules_faults
+use Rattle.command_shelf.specs.Shelf.{Texts, Told, front_to}
+use Rattle.command_answers.specs.declared.answer.Answer.{Answer}
+use Rattle.command_answers.specs.Asked.{TextAnswers, AnswersThird, DemandAnswers}
+use Rattle.command_answers.specs.Asked as asked
+use Rattle.command_answers.specs.DemandFronts.{demand-fault-whole, long-demand}
+use Rattle.command_answers.specs.Fetch.{IsAnswer, IsFetchTo}
+use Rattle.command_answers.specs.Fronts.{front-cases}
+use Rattle.command_answers.specs.Reader.{IsReader}
+use Rattle.command_answers.specs.RulesFronts.{fault-whole, long-rules}
+use Rattle.command_answers.proofs.AskedLemmas.{no_names}
+use Rattle.command_answers.proofs.Readers.{after_fetch, widen}
 use Rattle.page_command.specs.Check.{AnswersBeside, AnswersBesideRules, AnswersDemand, AnswersLabelled, AnswersLabelsText, AnswersOldText, AnswersRequest, AnswersShown, Request, RequestAnswers, kind_by, requested}
 use Rattle.page_command.specs.Check as check
 use Rattle.page_command.specs.Fronts.{long-labels-whole, long-old-whole}
-use Rattle.roster_views.specs.declared.kind.FirstWord.{FirstWord}
-use Rattle.roster_views.specs.declared.kind.FirstWord.TheVariants.{Page}
+use Rattle.page_views.specs.declared.kind.FirstWord.{FirstWord}
+use Rattle.page_views.specs.declared.kind.FirstWord.TheVariants.{Page}
 
 -- a text that was fetched up to a limit, and what is answered by its first bytes
 module _ (A : List ℕ → Option Texts → ℕ → List ℕ → Type 0) (B : Option Texts → ℕ → List ℕ → Type 0) (most : ℕ) (name front : List ℕ) (names : List (List ℕ)) where

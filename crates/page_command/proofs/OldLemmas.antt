@@ -6,21 +6,21 @@ use Rattle.std.proofs.lemmas.List.Sums.{fails_before_first}
 use Rattle.std.proofs.lemmas.Option.{none-some}
 use Rattle.std.specs.List.{position, position_or_len}
 use Rattle.std.specs.Prelude.{codes, nat_eq, nat_lt}
-use Rattle.roster_model.specs.declared.instance.Instance.{Instance}
-use Rattle.roster_model.specs.declared.instance.Shift.{Shift}
-use Rattle.roster_model.specs.Folds.{Each}
-use Rattle.roster_model.proofs.EachLemmas.{all_each}
-use Rattle.certificates.specs.declared.cert.Cert.{Cert}
-use Rattle.proof_pieces.specs.CertOf.{proof_of}
-use Rattle.proof_pieces.specs.FaultLine as proof
-use Rattle.proof_pieces.specs.declared.fault.ProofFault.{ProofFault}
-use Rattle.roster_report.specs.Reports.{HasSoundShifts}
-use Rattle.roster_value.specs.stated_rosters.FaultLine as roster
-use Rattle.roster_value.specs.stated_rosters.RosterOf.{roster_of}
-use Rattle.roster_value.specs.declared.stated_rosters.fault.RosterFault.{RosterFault}
+use Rattle.model_rosters.specs.declared.instance.Instance.{Instance}
+use Rattle.model_rosters.specs.declared.instance.Shift.{Shift}
+use Rattle.model_rosters.specs.Folds.{Each}
+use Rattle.model_rosters.proofs.EachLemmas.{all_each}
+use Rattle.check_certificates.specs.declared.cert.Cert.{Cert}
+use Rattle.text_proof_pieces.specs.CertOf.{proof_of}
+use Rattle.text_proof_pieces.specs.FaultLine as proof
+use Rattle.text_proof_pieces.specs.declared.fault.ProofFault.{ProofFault}
+use Rattle.text_reports.specs.Reports.{HasSoundShifts}
+use Rattle.check_values.specs.stated_rosters.FaultLine as roster
+use Rattle.check_values.specs.stated_rosters.RosterOf.{roster_of}
+use Rattle.check_values.specs.declared.stated_rosters.fault.RosterFault.{RosterFault}
 use Rattle.text_lines.proofs.ListLemmas.{at_least}
 use Rattle.text_lines.specs.Places.{place_text}
-use Rattle.roster_views.specs.Draw.{IsOldRoster}
+use Rattle.page_views.specs.Draw.{IsOldRoster}
 use Rattle.page_command.specs.Old.{Reads, is_wrong, of_proof, of_report, old_line, whole_of}
 use Rattle.page_command.specs.declared.old_fault.OldFault.{OldFault}
 use Rattle.page_command.specs.declared.old_fault.OldFault.TheVariants.{WrongLength}

@@ -1,47 +1,47 @@
 -- The same texts have the same answer, but for the trees of derivations.
 use Rattle.std.proofs.Common.{◌≡◌, ℕ, Bool, true, false, List, [], ◌∷◌, Option, None, Some, refl, sym, ap, subst, ◌∙◌, inl, inr}
-use Rattle.roster_model.specs.declared.grammar.Grammar.{Grammar}
-use Rattle.roster_model.specs.declared.instance.Instance.{Instance}
-use Rattle.roster_model.specs.declared.instance.Shift.{Shift}
-use Rattle.roster_model.specs.Trees.{steps}
-use Rattle.certificates.specs.declared.cert.Cert.{Cert}
-use Rattle.certificates.specs.declared.why.Why.{Why}
-use Rattle.certificates.specs.declared.verdict.Verdict.TheVariants.{No}
-use Rattle.certificates.proofs.certificate_laws.NoCause.{refused as cause-refuses}
-use Rattle.certificates.proofs.certificate_laws.OneCause.{one-first}
-use Rattle.demand_lines.specs.declared.fault.DemandFault.{DemandFault}
-use Rattle.demand_lines.specs.FaultLine as demand
-use Rattle.demand_text.specs.InstanceOf.{instance_of}
-use Rattle.proof_pieces.specs.declared.fault.ProofFault.{ProofFault}
-use Rattle.proof_pieces.specs.CertOf.{proof_of}
-use Rattle.proof_pieces.specs.FaultLine as proof
+use Rattle.model_rosters.specs.declared.grammar.Grammar.{Grammar}
+use Rattle.model_rosters.specs.declared.instance.Instance.{Instance}
+use Rattle.model_rosters.specs.declared.instance.Shift.{Shift}
+use Rattle.model_rosters.specs.Trees.{steps}
+use Rattle.check_certificates.specs.declared.cert.Cert.{Cert}
+use Rattle.check_certificates.specs.declared.why.Why.{Why}
+use Rattle.check_certificates.specs.declared.verdict.Verdict.TheVariants.{No}
+use Rattle.check_certificates.proofs.certificate_laws.NoCause.{refused as cause-refuses}
+use Rattle.check_certificates.proofs.certificate_laws.OneCause.{one-first}
+use Rattle.text_demand_lines.specs.declared.fault.DemandFault.{DemandFault}
+use Rattle.text_demand_lines.specs.FaultLine as demand
+use Rattle.text_demand.specs.InstanceOf.{instance_of}
+use Rattle.text_proof_pieces.specs.declared.fault.ProofFault.{ProofFault}
+use Rattle.text_proof_pieces.specs.CertOf.{proof_of}
+use Rattle.text_proof_pieces.specs.FaultLine as proof
 use Rattle.page_text.specs.declared.row.Row.{Row}
-use Rattle.roster_value.specs.Answers as values
-use Rattle.roster_value.specs.declared.valued.Valued.{Valued}
-use Rattle.roster_value.proofs.OneAnswer.{one_value, stated-once}
-use Rattle.roster_value.specs.stated_rosters.FaultLine as roster
-use Rattle.roster_value.specs.stated_rosters.RosterOf.{roster_of}
-use Rattle.roster_value.specs.declared.stated_rosters.fault.RosterFault.{RosterFault}
-use Rattle.shelf.specs.Shelf.{Texts}
-use Rattle.derived_rules.specs.RuledTrees.{AreRuledAtOnePrice}
-use Rattle.answer_texts.specs.VerdictText.{verdict_text}
-use Rattle.answers.specs.Asked.{ProofAnswers, TextAnswers, AnswersThird, DemandAnswers, TextsAnswers}
-use Rattle.answers.specs.Readings.{SaysProofFault}
-use Rattle.answers.specs.Asked as checks
-use Rattle.answers.proofs.OneReading.{same_text, same_ok, same_err, not_both, same_grammar, no_fault, faults_once}
+use Rattle.check_values.specs.Answers as values
+use Rattle.check_values.specs.declared.valued.Valued.{Valued}
+use Rattle.check_values.proofs.OneAnswer.{one_value, stated-once}
+use Rattle.check_values.specs.stated_rosters.FaultLine as roster
+use Rattle.check_values.specs.stated_rosters.RosterOf.{roster_of}
+use Rattle.check_values.specs.declared.stated_rosters.fault.RosterFault.{RosterFault}
+use Rattle.command_shelf.specs.Shelf.{Texts}
+use Rattle.page_derived_rules.specs.RuledTrees.{AreRuledAtOnePrice}
+use Rattle.text_answers.specs.VerdictText.{verdict_text}
+use Rattle.command_answers.specs.Asked.{ProofAnswers, TextAnswers, AnswersThird, DemandAnswers, TextsAnswers}
+use Rattle.command_answers.specs.Readings.{SaysProofFault}
+use Rattle.command_answers.specs.Asked as checks
+use Rattle.command_answers.proofs.OneReading.{same_text, same_ok, same_err, not_both, same_grammar, no_fault, faults_once}
 use Rattle.page_labels.specs.FaultLine as label
 use Rattle.page_labels.specs.Labels.{nothing}
 use Rattle.page_labels.specs.LabelsOf.{labels_of}
 use Rattle.page_labels.specs.declared.fault.LabelFault.{LabelFault}
 use Rattle.page_labels.specs.declared.clock.Clock.{Clock}
 use Rattle.page_labels.specs.declared.labels.Labels.{Labels}
-use Rattle.roster_views.specs.declared.kind.CalendarDay.{CalendarDay}
-use Rattle.text_commands.specs.what_if.Value.{SaysRosterFault}
+use Rattle.page_views.specs.declared.kind.CalendarDay.{CalendarDay}
+use Rattle.command_texts.specs.what_if.Value.{SaysRosterFault}
 use Rattle.page_command.specs.Check.{AnswersBeside, AnswersDemand, AnswersLabelled, AnswersRequest, AnswersShown, BesideAnswers, LabelAnswers, OldAnswers, RefusedLabels, Request, RequestAnswers, UnderAnswers, kind_by, requested}
 use Rattle.page_command.specs.Check as answers
 use Rattle.page_command.specs.Dated.{AnswersDated, CalendarAnswers, ClockAnswers, no_clock_line, events_on}
 use Rattle.page_command.specs.Dated as dated
-use Rattle.roster_views.specs.Draw.{IsPage}
+use Rattle.page_views.specs.Draw.{IsPage}
 use Rattle.page_command.specs.Judgement.{Judgement, StatedJudgement}
 use Rattle.page_command.specs.Judgement as judgement
 use Rattle.page_command.specs.Old.{RefusedOld, old_of}
@@ -49,17 +49,17 @@ use Rattle.page_command.specs.Old as old_text
 use Rattle.page_command.specs.declared.old_fault.OldFault.{OldFault}
 use Rattle.page_command.specs.Report.{IsRead, LineAnswers, ReportAnswers, RosterAnswers, SaysTextFault, is_report}
 use Rattle.page_command.specs.Report as report
-use Rattle.roster_views.specs.Shown.{IsShown, Showing, certified, line_instead, stated}
-use Rattle.roster_views.specs.Shown as showing
-use Rattle.roster_views.specs.declared.kind.FirstWord.{FirstWord}
-use Rattle.roster_views.specs.declared.kind.FirstWord.TheVariants as words
-use Rattle.roster_views.specs.declared.kind.Kind.{Kind}
-use Rattle.roster_views.specs.declared.kind.Kind.TheVariants.{Page, Table, Coverage, Calendar}
-use Rattle.roster_views.specs.declared.roster.ShownRoster.{ShownRoster}
+use Rattle.page_views.specs.Shown.{IsShown, Showing, certified, line_instead, stated}
+use Rattle.page_views.specs.Shown as showing
+use Rattle.page_views.specs.declared.kind.FirstWord.{FirstWord}
+use Rattle.page_views.specs.declared.kind.FirstWord.TheVariants as words
+use Rattle.page_views.specs.declared.kind.Kind.{Kind}
+use Rattle.page_views.specs.declared.kind.Kind.TheVariants.{Page, Table, Coverage, Calendar}
+use Rattle.page_views.specs.declared.roster.ShownRoster.{ShownRoster}
 use Rattle.page_command.specs.OnePage.{AreSameButTrees, AreTreesOfRows, ArePagesButTrees}
-use Rattle.roster_views.specs.Rows.{AreDerived, IsDerived, rows_of, rules_of}
-use Rattle.roster_views.specs.declared.sums.Sums.{Sums}
-use Rattle.roster_views.specs.declared.compare.Comparison.{Comparison}
+use Rattle.page_views.specs.Rows.{AreDerived, IsDerived, rows_of, rules_of}
+use Rattle.page_views.specs.declared.sums.Sums.{Sums}
+use Rattle.page_views.specs.declared.compare.Comparison.{Comparison}
 use Rattle.page_command.proofs.OneComparison.{compared_once}
 
 -- equal statuses, and texts that are the same but for the trees of derivations

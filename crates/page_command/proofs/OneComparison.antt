@@ -1,11 +1,11 @@
 -- There is one least matching, and so one comparison.
 use Rattle.std.proofs.Common.{◌≡◌, ℕ, zero, suc, ◌<◌, ◌≤◌, ◌⊎◌, inl, inr, Bool, List, [], ◌∷◌, Option, None, Some, length, refl, sym, ap, ◌∙◌, arith}
-use Rattle.roster_model.specs.declared.instance.Shift.{Shift}
+use Rattle.model_rosters.specs.declared.instance.Shift.{Shift}
 use Rattle.page_text.specs.declared.changes.Changes.{Changes}
-use Rattle.shift_figures.specs.roster_changes.Changes.{IsLeastMatching, changed_periods, changed_shifts}
-use Rattle.shift_figures.specs.roster_changes.Matchings.{ComesFirst, IsMatching, choice, rank}
-use Rattle.roster_views.specs.Compared.{IsBeside, IsCompared, matched_changes, roster_marks}
-use Rattle.roster_views.specs.declared.compare.Comparison.{Comparison}
+use Rattle.model_shift_figures.specs.roster_changes.Changes.{IsLeastMatching, changed_periods, changed_shifts}
+use Rattle.model_shift_figures.specs.roster_changes.Matchings.{ComesFirst, IsMatching, choice, rank}
+use Rattle.page_views.specs.Compared.{IsBeside, IsCompared, matched_changes, roster_marks}
+use Rattle.page_views.specs.declared.compare.Comparison.{Comparison}
 
 -- neither is the lesser one
 neither : {P Q : Type 0} (a b : ℕ) → ((a < b) ⊎ ((a ≡ b) × P)) → ((b < a) ⊎ ((b ≡ a) × Q)) → P × Q

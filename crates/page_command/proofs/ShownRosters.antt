@@ -2,26 +2,26 @@
 use Rattle.std.proofs.Common.{◌≡◌, ℕ, List, Option, None, Result, Ok, Err, IfOk, arith, sym, subst}
 use Rattle.std.proofs.lemmas.Option.{none-some}
 use Rattle.std.specs.Prelude.{IfSome}
-use Rattle.roster_model.specs.declared.instance.Instance.{Instance}
-use Rattle.roster_model.specs.declared.instance.Shift.{Shift}
-use Rattle.roster_model.specs.declared.memory.Memory.{Memory}
-use Rattle.roster_model.specs.Duties.{Duty}
-use Rattle.roster_model.specs.Rosters.{IsRoster, roster_cost}
-use Rattle.certificates.specs.certificate_laws.Accepted.{IsStated}
-use Rattle.certificates.specs.RosterCauses.{duties, stated_prices}
-use Rattle.certificates.specs.Sound.{IsSoundCert}
-use Rattle.certificates.specs.declared.cert.Cert.{Cert}
-use Rattle.proof_pieces.specs.CertOf.{proof_of}
-use Rattle.roster_value.specs.Values.{IsValued}
-use Rattle.roster_value.specs.declared.valued.Valued.{Valued}
-use Rattle.answers.specs.declared.answer.Answer.{Answer}
-use Rattle.answers.proofs.OneReading.{same_ok}
+use Rattle.model_rosters.specs.declared.instance.Instance.{Instance}
+use Rattle.model_rosters.specs.declared.instance.Shift.{Shift}
+use Rattle.model_rosters.specs.declared.memory.Memory.{Memory}
+use Rattle.model_rosters.specs.Duties.{Duty}
+use Rattle.model_rosters.specs.Rosters.{IsRoster, roster_cost}
+use Rattle.check_certificates.specs.certificate_laws.Accepted.{IsStated}
+use Rattle.check_certificates.specs.RosterCauses.{duties, stated_prices}
+use Rattle.check_certificates.specs.Sound.{IsSoundCert}
+use Rattle.check_certificates.specs.declared.cert.Cert.{Cert}
+use Rattle.text_proof_pieces.specs.CertOf.{proof_of}
+use Rattle.check_values.specs.Values.{IsValued}
+use Rattle.check_values.specs.declared.valued.Valued.{Valued}
+use Rattle.command_answers.specs.declared.answer.Answer.{Answer}
+use Rattle.command_answers.proofs.OneReading.{same_ok}
 use Rattle.page_labels.specs.declared.labels.Labels.{Labels}
-use Rattle.roster_views.specs.Draw.{IsSoundShown}
-use Rattle.roster_views.specs.Shown.{IsShown, Showing, certified, line_instead, stated}
-use Rattle.roster_views.specs.Shown as showing
-use Rattle.roster_views.specs.declared.kind.Kind.{Kind}
-use Rattle.roster_views.specs.declared.roster.ShownRoster.{ShownRoster}
+use Rattle.page_views.specs.Draw.{IsSoundShown}
+use Rattle.page_views.specs.Shown.{IsShown, Showing, certified, line_instead, stated}
+use Rattle.page_views.specs.Shown as showing
+use Rattle.page_views.specs.declared.kind.Kind.{Kind}
+use Rattle.page_views.specs.declared.roster.ShownRoster.{ShownRoster}
 
 -- the roster of a sound certificate that is as it states
 pub sound-certified : (i : Instance) (c : Cert) → IsSoundCert i c → IfSome c.cost (IsStated i c.shifts) → IsSoundShown i (certified c)

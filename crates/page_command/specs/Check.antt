@@ -2,25 +2,25 @@
 -- certificate is accepted or the roster of the report allowed, and where not the line of `check RULES DEMAND
 -- PROOF` or the lines of `value RULES DEMAND ROSTER`.
 use Rattle.std.specs.Prelude.{ℕ, ◌≡◌, List, Option, None, Some, Ok, Err}
-use Rattle.roster_model.specs.declared.grammar.Grammar.{Grammar}
-use Rattle.roster_model.specs.declared.instance.Instance.{Instance}
-use Rattle.roster_model.specs.declared.instance.Shift.{Shift}
+use Rattle.model_rosters.specs.declared.grammar.Grammar.{Grammar}
+use Rattle.model_rosters.specs.declared.instance.Instance.{Instance}
+use Rattle.model_rosters.specs.declared.instance.Shift.{Shift}
 use Rattle.page_labels.specs.FaultLine.{fault_line}
 use Rattle.page_labels.specs.Labels.{nothing}
 use Rattle.page_labels.specs.LabelsOf.{labels_of}
 use Rattle.page_labels.specs.declared.fault.LabelFault.{LabelFault}
 use Rattle.page_labels.specs.declared.labels.Labels.{Labels}
-use Rattle.shelf.specs.Shelf.{Texts}
-use Rattle.answers.specs.Asked.{DemandAnswers}
-use Rattle.answers.specs.Reader.{Holds}
-use Rattle.answers.specs.Readings.{IsGrammarOf, SaysFault}
-use Rattle.roster_views.specs.Kinds.{kind_for}
+use Rattle.command_shelf.specs.Shelf.{Texts}
+use Rattle.command_answers.specs.Asked.{DemandAnswers}
+use Rattle.command_answers.specs.Reader.{Holds}
+use Rattle.command_answers.specs.Readings.{IsGrammarOf, SaysFault}
+use Rattle.page_views.specs.Kinds.{kind_for}
 use Rattle.page_command.specs.Old.{RefusedOld, old_of}
 use Rattle.page_command.specs.Report.{LineAnswers, RosterAnswers}
-use Rattle.roster_views.specs.Sums.{sums_of}
-use Rattle.roster_views.specs.declared.kind.FirstWord.{FirstWord}
-use Rattle.roster_views.specs.declared.kind.FirstWord.TheVariants.{Page}
-use Rattle.roster_views.specs.declared.kind.Kind.{Kind}
+use Rattle.page_views.specs.Sums.{sums_of}
+use Rattle.page_views.specs.declared.kind.FirstWord.{FirstWord}
+use Rattle.page_views.specs.declared.kind.FirstWord.TheVariants.{Page}
+use Rattle.page_views.specs.declared.kind.Kind.{Kind}
 
 -- status 5: the labels text is refused
 pub record SaysLabelFault (i : Instance) (text output : List ℕ) : Type 0 where

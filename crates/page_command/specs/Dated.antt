@@ -1,18 +1,18 @@
 -- What the program answers to four texts and a day: the calendar of the roster where the certificate is
 -- accepted or the roster of the report allowed, and where not the lines of `check` or of `value`.
 use Rattle.std.specs.Prelude.{ℕ, ◌≡◌, List, Option, None, Some, Ok, codes}
-use Rattle.roster_model.specs.declared.instance.Instance.{Instance}
+use Rattle.model_rosters.specs.declared.instance.Instance.{Instance}
 use Rattle.page_labels.specs.LabelsOf.{labels_of}
 use Rattle.page_labels.specs.declared.clock.Clock.{Clock}
 use Rattle.page_labels.specs.declared.labels.Labels.{Labels}
-use Rattle.shelf.specs.Shelf.{Texts}
-use Rattle.answers.specs.Asked.{TextsAnswers}
-use Rattle.answers.specs.Reader.{Holds}
-use Rattle.roster_views.specs.declared.kind.CalendarDay.{CalendarDay}
+use Rattle.command_shelf.specs.Shelf.{Texts}
+use Rattle.command_answers.specs.Asked.{TextsAnswers}
+use Rattle.command_answers.specs.Reader.{Holds}
+use Rattle.page_views.specs.declared.kind.CalendarDay.{CalendarDay}
 use Rattle.page_command.specs.Check.{RefusedLabels}
 use Rattle.page_command.specs.Report.{LineAnswers, RosterAnswers}
-use Rattle.roster_views.specs.declared.kind.DayEvents.{DayEvents}
-use Rattle.roster_views.specs.declared.kind.Kind.TheVariants.{Calendar}
+use Rattle.page_views.specs.declared.kind.DayEvents.{DayEvents}
+use Rattle.page_views.specs.declared.kind.Kind.TheVariants.{Calendar}
 
 -- what is said where a labels text tells no clock
 abbrev pub no_clock_line : List ℕ

@@ -1,14 +1,14 @@
 -- A text and its first bytes, up to one above its limit, are answered alike by a calendar.
 use Rattle.std.proofs.Common.{◌<◌, ◌∙◌, ℕ, List, None, length, sym, subst, inl, inr}
-use Rattle.roster_model.specs.declared.instance.Instance.{Instance}
+use Rattle.model_rosters.specs.declared.instance.Instance.{Instance}
 use Rattle.page_labels.specs.declared.labels.Labels.{Labels}
-use Rattle.shelf.specs.Shelf.{front_to}
-use Rattle.answers.specs.Fronts.{front-cases}
-use Rattle.roster_views.specs.declared.kind.CalendarDay.{CalendarDay}
+use Rattle.command_shelf.specs.Shelf.{front_to}
+use Rattle.command_answers.specs.Fronts.{front-cases}
+use Rattle.page_views.specs.declared.kind.CalendarDay.{CalendarDay}
 use Rattle.page_command.specs.Dated.{CalendarAnswers, ClockAnswers, no_clock_line, events_on}
 use Rattle.page_command.specs.Dated as dated
 use Rattle.page_command.specs.Fronts.{labels-alike, labels-refused-whole, line-whole, long-roster}
-use Rattle.roster_views.specs.declared.kind.Kind.TheVariants.{Calendar}
+use Rattle.page_views.specs.declared.kind.Kind.TheVariants.{Calendar}
 
 -- a third text over the limit is refused
 long-clock : (day : CalendarDay) (d : Labels) (i : Instance) (text : List ℕ) (s : ℕ) (output : List ℕ)

@@ -1,13 +1,13 @@
 -- A text and its first bytes, up to one above its limit, are answered alike.
 use Rattle.std.proofs.Common.{◌≡◌, ◌<◌, ◌≤◌, ◌∙◌, ℕ, Bool, true, false, cond, List, Option, None, Some, Result, Ok, Err, length, arith, ap, refl, sym, subst, inl, inr}
 use Rattle.std.proofs.lemmas.Bool.{lt-leb}
-use Rattle.roster_model.specs.declared.instance.Instance.{Instance}
-use Rattle.roster_model.specs.declared.instance.Shift.{Shift}
-use Rattle.certificates.specs.declared.cert.Cert.{Cert}
-use Rattle.proof_pieces.specs.CertOf.{proof_of}
-use Rattle.proof_pieces.specs.declared.fault.ProofFault.{ProofFault}
-use Rattle.roster_value.specs.stated_rosters.RosterOf.{roster_of}
-use Rattle.roster_value.specs.declared.stated_rosters.fault.RosterFault.{RosterFault}
+use Rattle.model_rosters.specs.declared.instance.Instance.{Instance}
+use Rattle.model_rosters.specs.declared.instance.Shift.{Shift}
+use Rattle.check_certificates.specs.declared.cert.Cert.{Cert}
+use Rattle.text_proof_pieces.specs.CertOf.{proof_of}
+use Rattle.text_proof_pieces.specs.declared.fault.ProofFault.{ProofFault}
+use Rattle.check_values.specs.stated_rosters.RosterOf.{roster_of}
+use Rattle.check_values.specs.declared.stated_rosters.fault.RosterFault.{RosterFault}
 use Rattle.page_labels.specs.LabelsOf.{item_at, labels_of}
 use Rattle.page_labels.specs.Labels.{nothing}
 use Rattle.page_labels.specs.Steps.{each}
@@ -15,18 +15,18 @@ use Rattle.page_labels.specs.TextLines.{text_items}
 use Rattle.page_labels.specs.declared.fault.LabelFault.{LabelFault}
 use Rattle.page_labels.specs.declared.fault.LabelFault.TheVariants.{TooLong}
 use Rattle.page_labels.specs.declared.labels.Labels.{Labels}
-use Rattle.shelf.specs.Shelf.{front_to}
-use Rattle.answers.specs.Asked as asked
-use Rattle.answers.specs.Fronts.{alike, front-cases, over_limit}
-use Rattle.answers.specs.ProofFronts.{long-proof, proof-alike, proof-fault-whole}
-use Rattle.text_commands.specs.what_if.Fronts.{roster-alike-to, roster-fault-whole}
+use Rattle.command_shelf.specs.Shelf.{front_to}
+use Rattle.command_answers.specs.Asked as asked
+use Rattle.command_answers.specs.Fronts.{alike, front-cases, over_limit}
+use Rattle.command_answers.specs.ProofFronts.{long-proof, proof-alike, proof-fault-whole}
+use Rattle.command_texts.specs.what_if.Fronts.{roster-alike-to, roster-fault-whole}
 use Rattle.page_command.specs.Check.{BesideAnswers, LabelAnswers, OldAnswers, RefusedLabels, Request, RequestAnswers, UnderAnswers, kind_by}
 use Rattle.page_command.specs.Check as check
 use Rattle.page_command.specs.Judgement.{Judgement}
 use Rattle.page_command.specs.Old.{RefusedOld, of_proof, of_report, old_of}
 use Rattle.page_command.specs.Report.{IsRead, LineAnswers, RosterAnswers, SaysTextFault, is_report}
 use Rattle.page_command.specs.Report as report
-use Rattle.roster_views.specs.declared.kind.Kind.{Kind}
+use Rattle.page_views.specs.declared.kind.Kind.{Kind}
 use Rattle.page_command.specs.declared.old_fault.OldFault.{OldFault}
 
 -- a text over the limit is no report

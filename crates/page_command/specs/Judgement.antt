@@ -1,19 +1,19 @@
 -- What is answered to a certificate and to a stated roster: what shows the roster, or why it is refused.
 use Rattle.std.specs.Prelude.{ℕ, Option, List}
-use Rattle.roster_model.specs.declared.instance.Instance.{Instance}
-use Rattle.roster_model.specs.declared.instance.Shift.{Shift}
-use Rattle.roster_model.specs.Rosters.{Costs}
-use Rattle.certificates.specs.declared.cert.Cert.{Cert}
-use Rattle.certificates.specs.RosterCauses.{duties}
-use Rattle.certificates.specs.certificate_laws.Accepted.{Accepts}
-use Rattle.certificates.specs.certificate_laws.Right.{YesIsRight}
+use Rattle.model_rosters.specs.declared.instance.Instance.{Instance}
+use Rattle.model_rosters.specs.declared.instance.Shift.{Shift}
+use Rattle.model_rosters.specs.Rosters.{Costs}
+use Rattle.check_certificates.specs.declared.cert.Cert.{Cert}
+use Rattle.check_certificates.specs.RosterCauses.{duties}
+use Rattle.check_certificates.specs.certificate_laws.Accepted.{Accepts}
+use Rattle.check_certificates.specs.certificate_laws.Right.{YesIsRight}
 use Rattle.page_labels.specs.declared.labels.Labels.{Labels}
-use Rattle.roster_value.specs.declared.valued.Valued.{Valued}
-use Rattle.roster_value.specs.Answers.{SaysCauses}
-use Rattle.roster_value.specs.Values.{IsValued}
-use Rattle.text_commands.specs.Check.{SaysNo}
-use Rattle.roster_views.specs.Shown.{Showing, certified, stated}
-use Rattle.roster_views.specs.declared.kind.Kind.{Kind}
+use Rattle.check_values.specs.declared.valued.Valued.{Valued}
+use Rattle.check_values.specs.Answers.{SaysCauses}
+use Rattle.check_values.specs.Values.{IsValued}
+use Rattle.command_texts.specs.Check.{SaysNo}
+use Rattle.page_views.specs.Shown.{Showing, certified, stated}
+use Rattle.page_views.specs.declared.kind.Kind.{Kind}
 
 -- the certificate is accepted, what it states is true, and its roster is shown under labels, beside an old
 -- one where there is one, or a line is said in its place

@@ -1,15 +1,15 @@
 -- The shifts of an old roster, or why its text is refused.
 use Rattle.std.specs.Prelude.{ℕ, ◌≡◌, ◌+◌, Bool, not, nat_eq, length, position, Option, None, Some, List, [], ◌∷◌, ◌++◌, codes, if◌then◌else◌, Result, Ok, Err}
 use Rattle.std.specs.Fmt.{decimal}
-use Rattle.roster_model.specs.declared.instance.Instance.{Instance}
-use Rattle.roster_model.specs.declared.instance.Shift.{Shift}
-use Rattle.certificates.specs.declared.cert.Cert.{Cert}
-use Rattle.proof_pieces.specs.CertOf.{proof_of}
-use Rattle.proof_pieces.specs.FaultLine as proof
-use Rattle.proof_pieces.specs.declared.fault.ProofFault.{ProofFault}
-use Rattle.roster_value.specs.stated_rosters.FaultLine as roster
-use Rattle.roster_value.specs.stated_rosters.RosterOf.{roster_of}
-use Rattle.roster_value.specs.declared.stated_rosters.fault.RosterFault.{RosterFault}
+use Rattle.model_rosters.specs.declared.instance.Instance.{Instance}
+use Rattle.model_rosters.specs.declared.instance.Shift.{Shift}
+use Rattle.check_certificates.specs.declared.cert.Cert.{Cert}
+use Rattle.text_proof_pieces.specs.CertOf.{proof_of}
+use Rattle.text_proof_pieces.specs.FaultLine as proof
+use Rattle.text_proof_pieces.specs.declared.fault.ProofFault.{ProofFault}
+use Rattle.check_values.specs.stated_rosters.FaultLine as roster
+use Rattle.check_values.specs.stated_rosters.RosterOf.{roster_of}
+use Rattle.check_values.specs.declared.stated_rosters.fault.RosterFault.{RosterFault}
 use Rattle.text_lines.specs.Places.{place_text}
 use Rattle.text_lines.specs.Steps as steps
 use Rattle.text_lines.specs.Written.{tail}

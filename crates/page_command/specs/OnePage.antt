@@ -1,16 +1,16 @@
 -- The same texts have the same page, but for the trees of the derivations.
 use Rattle.std.specs.Prelude.{ℕ, ◌≡◌, ◌⊎◌, List, [], ◌∷◌, Some}
-use Rattle.roster_model.specs.declared.grammar.CodeDef.{CodeDef}
+use Rattle.model_rosters.specs.declared.grammar.CodeDef.{CodeDef}
 use Rattle.page_parts.specs.Elements.{written}
 use Rattle.page_text.specs.Pages.{page}
 use Rattle.page_text.specs.declared.content.Content.{Content}
 use Rattle.page_text.specs.declared.row.Row.{Row}
-use Rattle.shelf.specs.Shelf.{Texts}
-use Rattle.derived_rules.specs.RuledTrees.{AreRuledAtOnePrice}
+use Rattle.command_shelf.specs.Shelf.{Texts}
+use Rattle.page_derived_rules.specs.RuledTrees.{AreRuledAtOnePrice}
 use Rattle.page_command.specs.Check.{AnswersBeside, AnswersLabelled, AnswersShown}
 use Rattle.page_command.specs.Dated.{AnswersDated}
-use Rattle.roster_views.specs.declared.kind.FirstWord.{FirstWord}
-use Rattle.roster_views.specs.declared.kind.CalendarDay.{CalendarDay}
+use Rattle.page_views.specs.declared.kind.FirstWord.{FirstWord}
+use Rattle.page_views.specs.declared.kind.CalendarDay.{CalendarDay}
 
 -- for each row two derivations of its word, at one price
 abbrev pub AreTreesOfRows : List Row → List (List ℕ) → List (List ℕ) → Type 0

@@ -1,17 +1,17 @@
 -- What is answered to a proof text, or to a report in its place.
 use Rattle.std.specs.Prelude.{ℕ, ◌≡◌, Bool, true, false, ◌&&◌, nat_le, length, Option, List, Ok}
-use Rattle.roster_model.specs.declared.instance.Instance.{Instance}
-use Rattle.roster_model.specs.declared.instance.Shift.{Shift}
-use Rattle.certificates.specs.declared.cert.Cert.{Cert}
+use Rattle.model_rosters.specs.declared.instance.Instance.{Instance}
+use Rattle.model_rosters.specs.declared.instance.Shift.{Shift}
+use Rattle.check_certificates.specs.declared.cert.Cert.{Cert}
 use Rattle.page_labels.specs.declared.labels.Labels.{Labels}
-use Rattle.proof_pieces.specs.CertOf.{proof_of}
-use Rattle.roster_value.specs.stated_rosters.RosterOf.{begins_report, roster_of}
+use Rattle.text_proof_pieces.specs.CertOf.{proof_of}
+use Rattle.check_values.specs.stated_rosters.RosterOf.{begins_report, roster_of}
 use Rattle.text_lines.specs.Lines.{text_items}
-use Rattle.answers.specs.Asked.{ProofAnswers}
-use Rattle.answers.specs.Readings.{SaysProofFault}
-use Rattle.text_commands.specs.what_if.Value.{SaysRosterFault}
+use Rattle.command_answers.specs.Asked.{ProofAnswers}
+use Rattle.command_answers.specs.Readings.{SaysProofFault}
+use Rattle.command_texts.specs.what_if.Value.{SaysRosterFault}
 use Rattle.page_command.specs.Judgement.{Judgement, StatedJudgement}
-use Rattle.roster_views.specs.declared.kind.Kind.{Kind}
+use Rattle.page_views.specs.declared.kind.Kind.{Kind}
 
 -- the first line is that of a report, and the text has no more bytes than a proof text may have
 unfoldable pub is_report : List ℕ → Bool

@@ -1,16 +1,16 @@
 -- What the program does.
 use Rattle.std.specs.Prelude.{ℕ, ◌≡◌, Option, None, Some, List, [], ◌∷◌, ◌++◌, codes, Result, Ok, Err, if◌then◌else◌}
 use Rattle.std.specs.Str.{bytes_eq}
-use Rattle.shelf.specs.Shelf.{Told}
+use Rattle.command_shelf.specs.Shelf.{Told}
 use Rattle.text_lines.specs.Fields.{number_at}
-use Rattle.roster_csv.specs.roster_calendar.Dates.{date_of}
-use Rattle.roster_csv.specs.declared.roster_calendar.date.Date.{Date}
-use Rattle.roster_views.specs.declared.kind.CalendarDay.{CalendarDay}
+use Rattle.page_csv.specs.roster_calendar.Dates.{date_of}
+use Rattle.page_csv.specs.declared.roster_calendar.date.Date.{Date}
+use Rattle.page_views.specs.declared.kind.CalendarDay.{CalendarDay}
 use Rattle.page_command.specs.Check.{AnswersBeside, AnswersLabelled, AnswersShown}
 use Rattle.page_command.specs.Dated.{AnswersDated}
-use Rattle.answers.specs.Reader.{IsReader}
-use Rattle.roster_views.specs.declared.kind.FirstWord.{FirstWord}
-use Rattle.roster_views.specs.Kinds.{first_word}
+use Rattle.command_answers.specs.Reader.{IsReader}
+use Rattle.page_views.specs.declared.kind.FirstWord.{FirstWord}
+use Rattle.page_views.specs.Kinds.{first_word}
 
 -- what is said of other words
 abbrev pub no_form_line : List ℕ

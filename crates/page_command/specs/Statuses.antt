@@ -1,11 +1,11 @@
 -- No answer has the status of a refusal of the shelf.
 use Rattle.std.proofs.Common.{◌≢◌, ℕ, List, Option, None, Some, arith, refl}
-use Rattle.roster_model.specs.declared.instance.Instance.{Instance}
-use Rattle.roster_model.specs.declared.instance.Shift.{Shift}
-use Rattle.certificates.specs.declared.cert.Cert.{Cert}
+use Rattle.model_rosters.specs.declared.instance.Instance.{Instance}
+use Rattle.model_rosters.specs.declared.instance.Shift.{Shift}
+use Rattle.check_certificates.specs.declared.cert.Cert.{Cert}
 use Rattle.page_labels.specs.Labels.{nothing}
 use Rattle.page_labels.specs.declared.labels.Labels.{Labels}
-use Rattle.answers.specs.Statuses.{ends_at, proof-ends}
+use Rattle.command_answers.specs.Statuses.{ends_at, proof-ends}
 use Rattle.page_command.specs.Check.{BesideAnswers, LabelAnswers, OldAnswers, Request, RequestAnswers, UnderAnswers, kind_by}
 use Rattle.page_command.specs.Check as check
 use Rattle.page_command.specs.Dated.{CalendarAnswers, ClockAnswers, no_clock_line, events_on}
@@ -14,12 +14,12 @@ use Rattle.page_command.specs.Judgement.{Judgement, StatedJudgement}
 use Rattle.page_command.specs.Judgement as judgement
 use Rattle.page_command.specs.Report.{LineAnswers, ReportAnswers, RosterAnswers}
 use Rattle.page_command.specs.Report as report
-use Rattle.roster_views.specs.Shown.{Showing, certified, stated}
-use Rattle.roster_views.specs.Shown as showing
-use Rattle.roster_views.specs.declared.kind.Kind.{Kind}
-use Rattle.roster_views.specs.declared.kind.Kind.TheVariants.{Calendar}
-use Rattle.roster_views.specs.declared.roster.ShownRoster.{ShownRoster}
-use Rattle.roster_views.specs.declared.kind.CalendarDay.{CalendarDay}
+use Rattle.page_views.specs.Shown.{Showing, certified, stated}
+use Rattle.page_views.specs.Shown as showing
+use Rattle.page_views.specs.declared.kind.Kind.{Kind}
+use Rattle.page_views.specs.declared.kind.Kind.TheVariants.{Calendar}
+use Rattle.page_views.specs.declared.roster.ShownRoster.{ShownRoster}
+use Rattle.page_views.specs.declared.kind.CalendarDay.{CalendarDay}
 
 showing-ends : (k : Kind) (d : Labels) (i : Instance) (r : ShownRoster) (old : Option (List Shift)) (s : ℕ)
     (output : List ℕ) → Showing k d i r old s output → (s ≢ 6) × (s ≢ 7)

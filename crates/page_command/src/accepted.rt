@@ -2,21 +2,21 @@
 
 ghost use Rattle.std.specs.Prelude.{◌≡◌, IfOk, IfSome, Ok as Is};
 ghost use Rattle.std.specs.Option.{option_copied};
-ghost use Rattle.certificates.specs.certificate_laws.Accepted.{Accepts};
-ghost use Rattle.certificates.specs.Sound.{IsSoundCert};
-ghost use Rattle.certificates.specs.declared.cert.Cert.{Cert as Certificate};
-ghost use Rattle.proof_pieces.specs.CertOf.{proof_of};
-ghost use Rattle.roster_model.specs.SoundInstance.{IsSoundInstance};
-ghost use Rattle.roster_views.specs.Draw.{IsOldRoster, IsSoundShown};
-ghost use Rattle.roster_views.specs.Shown.{IsShown, Showing, certified};
+ghost use Rattle.check_certificates.specs.certificate_laws.Accepted.{Accepts};
+ghost use Rattle.check_certificates.specs.Sound.{IsSoundCert};
+ghost use Rattle.check_certificates.specs.declared.cert.Cert.{Cert as Certificate};
+ghost use Rattle.text_proof_pieces.specs.CertOf.{proof_of};
+ghost use Rattle.model_rosters.specs.SoundInstance.{IsSoundInstance};
+ghost use Rattle.page_views.specs.Draw.{IsOldRoster, IsSoundShown};
+ghost use Rattle.page_views.specs.Shown.{IsShown, Showing, certified};
 
-use answers::Answer;
-use certificate_text::{ProofFault, read_cert};
-use certificates::Cert;
+use check_certificates::Cert;
+use command_answers::Answer;
+use model_rosters::{Instance, Memory, Shift};
 use page_labels::Labels;
-use roster_model::{Instance, Memory, Shift};
-use roster_views::{Kind, ShownRoster, certified, line_instead, shown};
+use page_views::{Kind, ShownRoster, certified, line_instead, shown};
 use std::alloc::Global;
+use text_certificates::{ProofFault, read_cert};
 
 // Says what shows a roster under labels, beside an old one where there is one.
 fn drawn_answer(

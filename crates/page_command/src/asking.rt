@@ -1,24 +1,25 @@
-//! What is asked of a third text under labels, as `answers` asks it, with notes on the events of its shifts.
+//! What is asked of a third text under labels, as `command_answers` asks it, with notes on the events of its
+//! shifts.
 
 ghost use Rattle.std.specs.Prelude.{[], ◌∷◌};
-ghost use Rattle.roster_model.specs.Sound.{IsPlain, IsSound};
-ghost use Rattle.roster_model.specs.SoundInstance.{IsSoundInstance};
-ghost use Rattle.answers.specs.Asked.{AnswersThird, DemandAnswers, TextsAnswers};
-ghost use Rattle.answers.specs.Reader.{IsReader};
+ghost use Rattle.model_rosters.specs.Sound.{IsPlain, IsSound};
+ghost use Rattle.model_rosters.specs.SoundInstance.{IsSoundInstance};
+ghost use Rattle.command_answers.specs.Asked.{AnswersThird, DemandAnswers, TextsAnswers};
+ghost use Rattle.command_answers.specs.Reader.{IsReader};
 ghost use Rattle.page_command.specs.Check.{AnswersDemand, AnswersRequest};
 ghost use Rattle.page_command.specs.Requests.{request_of};
 
 use crate::events_note::note_events;
 use crate::request::{Drawing, Request};
-use answers::{
+use command_answers::{
     MOST_DEMAND, Question, demand_refusal, fetched, rules_refusal, say_answer_to, say_remarked,
 };
-use demand_text::read_demand;
-use fault_notes::{demand_note, rules_note};
-use roster_model::{Grammar, Instance};
-use rules_text::read_rules;
-use shelf::Shelf;
+use command_shelf::Shelf;
+use model_rosters::{Grammar, Instance};
 use std::alloc::Global;
+use text_demand::read_demand;
+use text_fault_notes::{demand_note, rules_note};
+use text_rules::read_rules;
 
 // Asks something of the third text under a name.
 fn ask_third<S: Shelf, Q: Question>(

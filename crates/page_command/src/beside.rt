@@ -1,15 +1,15 @@
 //! A page beside an old roster.
 
 ghost use Rattle.std.specs.Prelude.{[], ◌∷◌};
-ghost use Rattle.answers.specs.Reader.{IsReader};
+ghost use Rattle.command_answers.specs.Reader.{IsReader};
 ghost use Rattle.page_command.specs.Check.{AnswersBeside, AnswersBesideRules, AnswersOldText};
 
 use crate::asking::ask_request;
 use crate::limits::{MOST_LABELS, MOST_OLD};
 use crate::request::Request;
-use answers::{MOST_RULES, fetched};
-use roster_views::FirstWord;
-use shelf::Shelf;
+use command_answers::{MOST_RULES, fetched};
+use command_shelf::Shelf;
+use page_views::FirstWord;
 use std::alloc::Global;
 
 // Says the page of a roster under a labels text and beside an old text that is still to be fetched, by a

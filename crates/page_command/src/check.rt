@@ -2,8 +2,8 @@
 
 ghost use Rattle.std.specs.Prelude.{[], ◌∷◌, IfOk};
 ghost use Rattle.std.specs.Option.{option_copied};
-ghost use Rattle.roster_model.specs.SoundInstance.{IsSoundInstance};
-ghost use Rattle.answers.specs.Reader.{IsReader};
+ghost use Rattle.model_rosters.specs.SoundInstance.{IsSoundInstance};
+ghost use Rattle.command_answers.specs.Reader.{IsReader};
 ghost use Rattle.page_command.specs.Check.{
   AnswersLabelled,
   AnswersLabelsText,
@@ -19,11 +19,11 @@ use crate::limits::MOST_LABELS;
 use crate::old::{read_old, refused_old};
 use crate::refused::refused_labels;
 use crate::request::Request;
-use answers::{Answer, MOST_RULES, fetched};
+use command_answers::{Answer, MOST_RULES, fetched};
+use command_shelf::Shelf;
+use model_rosters::{Instance, Memory};
 use page_labels::{Labels, read_labels};
-use roster_model::{Instance, Memory};
-use roster_views::{FirstWord, Kind};
-use shelf::Shelf;
+use page_views::{FirstWord, Kind};
 use std::alloc::Global;
 
 // What is answered to a proof text or a report under labels and beside an old text.

@@ -1,8 +1,8 @@
 //! A calendar from a date on, and what is said of it.
 
 ghost use Rattle.std.specs.Prelude.{[], ◌∷◌, IfOk};
-ghost use Rattle.roster_model.specs.SoundInstance.{IsSoundInstance};
-ghost use Rattle.answers.specs.Reader.{IsReader};
+ghost use Rattle.model_rosters.specs.SoundInstance.{IsSoundInstance};
+ghost use Rattle.command_answers.specs.Reader.{IsReader};
 ghost use Rattle.page_command.specs.Dated.{
   AnswersDated,
   AnswersDatedLabels,
@@ -15,12 +15,12 @@ use crate::asking::ask_texts;
 use crate::judgement::judgement;
 use crate::limits::MOST_LABELS;
 use crate::refused::{line_answer, refused_labels};
-use answers::{Answer, MOST_DEMAND, MOST_PROOF, MOST_RULES, Question, fetched};
+use command_answers::{Answer, MOST_DEMAND, MOST_PROOF, MOST_RULES, Question, fetched};
+use command_shelf::Shelf;
+use model_rosters::{Instance, Memory};
+use page_csv::Setting;
 use page_labels::{Labels, read_labels};
-use roster_csv::Setting;
-use roster_model::{Instance, Memory};
-use roster_views::{CalendarDay, DayEvents, Kind};
-use shelf::Shelf;
+use page_views::{CalendarDay, DayEvents, Kind};
 use std::alloc::Global;
 
 // What is said where labels tell no clock.

@@ -1,13 +1,13 @@
 //! What is noted of the events of shifts.
 
 ghost use Rattle.std.specs.Prelude.{◌≡◌};
-ghost use Rattle.roster_model.specs.SoundInstance.{IsSoundInstance};
+ghost use Rattle.model_rosters.specs.SoundInstance.{IsSoundInstance};
 
 use crate::old::read_old;
+use command_shelf::Shelf;
+use model_rosters::{CodeDef, Instance, Shift};
+use model_shift_figures::is_work;
 use page_labels::{Clock, Labels, PaidCode, read_labels};
-use roster_model::{CodeDef, Instance, Shift};
-use shelf::Shelf;
-use shift_figures::is_work;
 use std::alloc::Global;
 
 /// So many minutes without work between work are noted.

@@ -12,10 +12,10 @@ ghost use Rattle.page_command.specs.Run.{
   shown_form,
 };
 ghost use Rattle.page_command.specs.Asked.{asked};
-ghost use Rattle.roster_views.specs.Kinds.{first_word};
+ghost use Rattle.page_views.specs.Kinds.{first_word};
 
-use roster_csv::{Date, date_of};
-use roster_views::{CalendarDay, FirstWord, first_word};
+use page_csv::{Date, date_of};
+use page_views::{CalendarDay, FirstWord, first_word};
 use text_lines::read_within;
 
 /// What the words of the command line ask for.

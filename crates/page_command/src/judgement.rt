@@ -2,23 +2,23 @@
 
 ghost use Rattle.std.specs.Prelude.{◌≡◌, IfOk, IfSome};
 ghost use Rattle.std.specs.Option.{option_copied};
-ghost use Rattle.roster_model.specs.SoundInstance.{IsSoundInstance};
-ghost use Rattle.answer_texts.specs.VerdictText.{verdict_text};
-ghost use Rattle.answers.specs.Asked.{ProofAnswers};
-ghost use Rattle.roster_views.specs.Draw.{IsOldRoster};
+ghost use Rattle.model_rosters.specs.SoundInstance.{IsSoundInstance};
+ghost use Rattle.text_answers.specs.VerdictText.{verdict_text};
+ghost use Rattle.command_answers.specs.Asked.{ProofAnswers};
+ghost use Rattle.page_views.specs.Draw.{IsOldRoster};
 ghost use Rattle.page_command.specs.Judgement.{Judgement};
 ghost use Rattle.page_command.specs.Report.{RosterAnswers};
 
 use crate::accepted::accepted_answer;
 use crate::report::{is_report, report_answer};
-use answers::{Answer, proof_refusal};
-use certificates::{Verdict, Why};
+use check_certificates::{Verdict, Why};
+use check_proofs::Judged;
+use command_answers::{Answer, proof_refusal};
+use command_texts::check::{judged, verdict_answer};
+use model_rosters::{Instance, Memory, Shift};
 use page_labels::Labels;
-use proof_check::Judged;
-use roster_model::{Instance, Memory, Shift};
-use roster_views::Kind;
+use page_views::Kind;
 use std::alloc::Global;
-use text_commands::check::{judged, verdict_answer};
 
 // Says why a certificate is refused.
 fn no_answer(alloc: Global, why: Why) -> Result<Answer, Memory>

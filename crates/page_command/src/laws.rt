@@ -1,19 +1,19 @@
 //! The laws on pages of the same texts, and on texts over their limits.
 
 ghost use Rattle.std.specs.Prelude.{ℕ, ◌≡◌, List, ◌∷◌};
-ghost use Rattle.roster_model.specs.declared.grammar.Grammar.{Grammar};
-ghost use Rattle.roster_model.specs.declared.instance.Group.{Group};
-ghost use Rattle.roster_model.specs.Extension.{extended};
-ghost use Rattle.roster_model.specs.declared.instance.Instance.{Instance};
+ghost use Rattle.model_rosters.specs.declared.grammar.Grammar.{Grammar};
+ghost use Rattle.model_rosters.specs.declared.instance.Group.{Group};
+ghost use Rattle.model_rosters.specs.Extension.{extended};
+ghost use Rattle.model_rosters.specs.declared.instance.Instance.{Instance};
 ghost use Rattle.page_labels.specs.LabelsOf.{labels_of};
-ghost use Rattle.shelf.specs.Shelf.{front_to};
+ghost use Rattle.command_shelf.specs.Shelf.{front_to};
 ghost use Rattle.page_command.specs.OnePage.{
   HaveOneCalendar,
   HaveOneLabelledPage,
   HaveOnePage,
   HaveOnePageBeside,
 };
-ghost use Rattle.roster_value.specs.group_rules.Plain.{plain_from};
+ghost use Rattle.check_values.specs.group_rules.Plain.{plain_from};
 
 /// States a law: the same texts have the same answer; two pages of them are the same but for the trees of the
 /// derivations, of which each is one of the row's word at its price.

@@ -1,6 +1,6 @@
 //! How many bytes labels and an old text have at most.
 
-use answers::MOST_PROOF;
+use command_answers::MOST_PROOF;
 
 /// A labels text has at most so many bytes.
 pub(crate) const MOST_LABELS: usize = 65_536;

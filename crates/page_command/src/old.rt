@@ -1,21 +1,21 @@
 //! The shifts of an old text.
 
 ghost use Rattle.std.specs.Prelude.{◌≡◌, ◌≢◌, ◌<◌, ◌≤◌, Err as Refused, IfOk, IfSome, length, position};
-ghost use Rattle.roster_model.specs.Folds.{Each};
-ghost use Rattle.roster_model.specs.SoundInstance.{IsSoundInstance};
-ghost use Rattle.proof_pieces.specs.CertOf.{proof_of};
-ghost use Rattle.roster_value.specs.stated_rosters.RosterOf.{roster_of};
-ghost use Rattle.roster_views.specs.Draw.{IsOldRoster};
+ghost use Rattle.model_rosters.specs.Folds.{Each};
+ghost use Rattle.model_rosters.specs.SoundInstance.{IsSoundInstance};
+ghost use Rattle.text_proof_pieces.specs.CertOf.{proof_of};
+ghost use Rattle.check_values.specs.stated_rosters.RosterOf.{roster_of};
+ghost use Rattle.page_views.specs.Draw.{IsOldRoster};
 ghost use Rattle.page_command.specs.Old.{Reads, RefusedOld, is_wrong, of_proof, of_report, old_of, whole_of};
 
 use crate::old_fault::{OldFault, fault_line};
 use crate::refused::line_answer;
 use crate::report::is_report;
-use answers::Answer;
-use certificate_text::{ProofFault, read_cert};
-use roster_model::{Instance, List, Memory, Shift};
-use roster_value::{RosterFault, read_roster};
+use check_values::{RosterFault, read_roster};
+use command_answers::Answer;
+use model_rosters::{Instance, List, Memory, Shift};
 use std::alloc::Global;
+use text_certificates::{ProofFault, read_cert};
 
 // Whether a shift's word has another length than a day of so many periods.
 fn is_wrong(periods: u8, shift: &Shift) -> bool

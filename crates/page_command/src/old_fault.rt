@@ -2,14 +2,14 @@
 
 ghost use Rattle.std.specs.Prelude.{◌≡◌, ◌≤◌, ◌++◌, codes, drop, length, IfOk};
 ghost use Rattle.page_command.specs.Old.{fault_line, old_line};
-ghost use Rattle.proof_pieces.specs.FaultLine as proof_text;
-ghost use Rattle.roster_value.specs.stated_rosters.FaultLine as roster_text;
+ghost use Rattle.text_proof_pieces.specs.FaultLine as proof_text;
+ghost use Rattle.check_values.specs.stated_rosters.FaultLine as roster_text;
 
-use proof_pieces::ProofFault;
-use roster_model::{List, Memory};
-use roster_value::RosterFault;
+use check_values::RosterFault;
+use model_rosters::{List, Memory};
 use std::alloc::Global;
 use text_lines::{field, put};
+use text_proof_pieces::ProofFault;
 
 /// Why an old text is refused.
 #[derive(Clone, Copy, Debug, PartialEq, Eq, Drop)]
@@ -40,7 +40,7 @@ fn proof_line(alloc: Global, fault: &ProofFault) -> Result<List<u8>, Memory>
     ensures { IfOk result (λ text. text ≡ old_line (proof_text.line_of fault.now)
         (proof_text.fault_text fault.now)) }
 {
-    let line = proof_pieces::fault_line(alloc, fault)?;
+    let line = text_proof_pieces::fault_line(alloc, fault)?;
     renamed(alloc, b"proof: ", line.as_slice())
 }
 
@@ -49,7 +49,7 @@ fn report_line(alloc: Global, fault: &RosterFault) -> Result<List<u8>, Memory>
     ensures { IfOk result (λ text. text ≡ old_line (roster_text.line_of fault.now)
         (roster_text.fault_text fault.now)) }
 {
-    let line = roster_value::fault_line(alloc, fault)?;
+    let line = check_values::fault_line(alloc, fault)?;
     renamed(alloc, b"roster: ", line.as_slice())
 }
 

@@ -1,15 +1,15 @@
 //! `run`, and words of no form.
 
 ghost use Rattle.std.specs.Prelude.{[], map, string_bytes};
-ghost use Rattle.answers.specs.Reader.{IsReader};
+ghost use Rattle.command_answers.specs.Reader.{IsReader};
 ghost use Rattle.page_command.specs.Run.{AnswersNoForm, Does};
 
 use crate::beside::draw_beside;
 use crate::check::{draw, draw_labelled};
 use crate::dated::draw_dated;
 use crate::form::{Form, form_of};
-use answers::say;
-use shelf::Shelf;
+use command_answers::say;
+use command_shelf::Shelf;
 use std::alloc::Global;
 
 const NO_FORM: &[u8] =

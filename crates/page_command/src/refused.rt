@@ -1,21 +1,21 @@
 //! A line in place of what would be shown.
 
 ghost use Rattle.std.specs.Prelude.{◌≡◌, ◌≢◌, true, false, Err as Refused, IfOk};
-ghost use Rattle.roster_model.specs.SoundInstance.{IsSoundInstance};
+ghost use Rattle.model_rosters.specs.SoundInstance.{IsSoundInstance};
 ghost use Rattle.page_labels.specs.LabelsOf.{labels_of};
 ghost use Rattle.page_command.specs.Check.{RefusedLabels};
 ghost use Rattle.page_command.specs.Report.{LineAnswers, is_report};
 
 use crate::report::is_report;
-use answers::{Answer, proof_refusal};
+use check_proofs::Judged;
+use check_values::read_roster;
+use command_answers::{Answer, proof_refusal};
+use command_texts::check::judged;
+use command_texts::what_if::value::roster_refusal;
+use model_rosters::{Instance, Memory};
 use page_labels::{LabelFault, fault_line};
-use proof_check::Judged;
-use roster_model::{Instance, Memory};
-use roster_value::read_roster;
-use roster_views::copied;
+use page_views::copied;
 use std::alloc::Global;
-use text_commands::check::judged;
-use text_commands::what_if::value::roster_refusal;
 
 // Says a line with status 5.
 fn line_said(alloc: Global, line: &[u8]) -> Result<Answer, Memory>

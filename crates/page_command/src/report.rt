@@ -2,20 +2,20 @@
 
 ghost use Rattle.std.specs.Prelude.{◌≡◌, IfOk, IfSome};
 ghost use Rattle.std.specs.Option.{option_copied};
-ghost use Rattle.roster_model.specs.SoundInstance.{IsSoundInstance};
-ghost use Rattle.roster_value.specs.stated_rosters.RosterOf.{IsSoundRoster};
-ghost use Rattle.roster_views.specs.Draw.{IsOldRoster};
+ghost use Rattle.model_rosters.specs.SoundInstance.{IsSoundInstance};
+ghost use Rattle.check_values.specs.stated_rosters.RosterOf.{IsSoundRoster};
+ghost use Rattle.page_views.specs.Draw.{IsOldRoster};
 ghost use Rattle.page_command.specs.Judgement.{StatedJudgement};
 ghost use Rattle.page_command.specs.Report.{ReportAnswers, is_report};
 
 use crate::accepted::shown_answer;
-use answers::Answer;
+use check_values::{Judged, begins_report, judge, read_roster};
+use command_answers::Answer;
+use command_texts::what_if::value::{roster_refusal, value_of};
+use model_rosters::{Instance, Memory, Shift};
 use page_labels::Labels;
-use roster_model::{Instance, Memory, Shift};
-use roster_value::{Judged, begins_report, judge, read_roster};
-use roster_views::{Kind, stated};
+use page_views::{Kind, stated};
 use std::alloc::Global;
-use text_commands::what_if::value::{roster_refusal, value_of};
 
 /// A proof text has at most so many bytes.
 const MOST_BYTES: usize = 1_073_741_824;

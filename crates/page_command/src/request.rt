@@ -2,15 +2,15 @@
 
 ghost use Rattle.std.specs.Prelude.{◌≡◌, IfOk};
 ghost use Rattle.std.specs.Option.{option_copied};
-ghost use Rattle.roster_model.specs.SoundInstance.{IsSoundInstance};
+ghost use Rattle.model_rosters.specs.SoundInstance.{IsSoundInstance};
 ghost use Rattle.page_command.specs.Check.{RequestAnswers, UnderAnswers, kind_by};
 ghost use Rattle.page_command.specs.Requests.{request_of};
 
 use crate::check::{answer_under, answer_with};
-use answers::{Answer, MOST_PROOF, Question};
+use command_answers::{Answer, MOST_PROOF, Question};
+use model_rosters::{Instance, Memory};
 use page_labels::no_labels;
-use roster_model::{Instance, Memory};
-use roster_views::{FirstWord, Kind, kind_for, sums_of};
+use page_views::{FirstWord, Kind, kind_for, sums_of};
 use std::alloc::Global;
 
 /// What is asked, and the texts that are read before the demand text.

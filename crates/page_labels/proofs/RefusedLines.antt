@@ -2,9 +2,9 @@
 use Rattle.std.proofs.Common.{◌≡◌, ℕ, Bool, true, false, cond, ◌⊎◌, ◌&&◌, ◌||◌, eqb, ltb, not, List, [], ◌∷◌, length, Option, Some, None, Result, Ok, Err, refl, inl, inr}
 use Rattle.std.specs.Prelude.{codes, is_some, position, slice_index, ◌==◌}
 use Rattle.std.specs.Str.{bytes_eq}
-use Rattle.roster_model.specs.declared.grammar.CodeDef.{CodeDef}
-use Rattle.roster_model.specs.declared.instance.Group.{Group}
-use Rattle.roster_model.specs.declared.instance.Instance.{Instance}
+use Rattle.model_rosters.specs.declared.grammar.CodeDef.{CodeDef}
+use Rattle.model_rosters.specs.declared.instance.Group.{Group}
+use Rattle.model_rosters.specs.declared.instance.Instance.{Instance}
 use Rattle.text_lines.specs.Lines.{TextLine}
 use Rattle.text_lines.specs.Fields.{number_at}
 use Rattle.text_lines.specs.Refusals.{number_of}

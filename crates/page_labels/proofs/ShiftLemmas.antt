@@ -3,7 +3,7 @@ use Rattle.std.proofs.Common.{◌≡◌, Bool, true, false, cond, ◌&&◌, eqb,
 use Rattle.std.specs.Str.{bytes_eq}
 use Rattle.std.proofs.lemmas.Slice.Eq.{bytes_eq-Decides}
 use Rattle.std.proofs.lemmas.List.Elements.{All-cons, All-nil}
-use Rattle.roster_model.specs.declared.instance.Shift.{Shift}
+use Rattle.model_rosters.specs.declared.instance.Shift.{Shift}
 use Rattle.page_labels.specs.declared.fault.LabelFault.{LabelFault}
 use Rattle.page_labels.specs.declared.fault.LabelFault.TheVariants.{AnotherShift}
 use Rattle.page_labels.specs.declared.labels.ShiftLabel.{ShiftLabel}

@@ -1,8 +1,8 @@
 -- The words of a line: texts, codes and names of groups.
 use Rattle.std.specs.Prelude.{ℕ, ◌+◌, Bool, false, ◌==◌, not, List, [], ◌∷◌, ◌++◌, length, nat_eq, nat_lt, position, slice_get, slice_index, Option, Some, None, Result, Ok, Err, if◌then◌else◌}
 use Rattle.std.specs.Str.{bytes_eq}
-use Rattle.roster_model.specs.declared.grammar.CodeDef.{CodeDef}
-use Rattle.roster_model.specs.declared.instance.Group.{Group}
+use Rattle.model_rosters.specs.declared.grammar.CodeDef.{CodeDef}
+use Rattle.model_rosters.specs.declared.instance.Group.{Group}
 use Rattle.text_lines.specs.Written.{tail}
 use Rattle.page_labels.specs.declared.fault.LabelFault.{LabelFault}
 use Rattle.page_labels.specs.declared.fault.LabelFault.TheVariants.{UnknownLine, OutOfRange, UnknownCode, NoName}

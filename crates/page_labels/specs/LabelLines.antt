@@ -1,8 +1,8 @@
 -- What the lines of a labels text say.
 use Rattle.std.specs.Prelude.{ℕ, Bool, true, false, ◌&&◌, ◌||◌, List, [], ◌∷◌, ◌++◌, codes, is_some, length, nat_eq, nat_lt, slice_get, Option, Some, None, Result, Ok, Err, if◌then◌else◌}
 use Rattle.std.specs.Str.{bytes_eq}
-use Rattle.roster_model.specs.declared.grammar.CodeDef.{CodeDef}
-use Rattle.roster_model.specs.declared.instance.Instance.{Instance}
+use Rattle.model_rosters.specs.declared.grammar.CodeDef.{CodeDef}
+use Rattle.model_rosters.specs.declared.instance.Instance.{Instance}
 use Rattle.text_lines.specs.Fields.{number_at}
 use Rattle.page_labels.specs.Clocks.{clock_of}
 use Rattle.page_labels.specs.Fields.{code_at, group_at, words_at}

@@ -1,6 +1,6 @@
 -- What a labels text says, or its first fault.
 use Rattle.std.specs.Prelude.{ℕ, List, Result, Ok, Err, length, nat_lt, if◌then◌else◌}
-use Rattle.roster_model.specs.declared.instance.Instance.{Instance}
+use Rattle.model_rosters.specs.declared.instance.Instance.{Instance}
 use Rattle.text_lines.specs.Lines.{TextLine}
 use Rattle.text_lines.specs.Refusals as refusals
 use Rattle.text_lines.specs.declared.line.BadByte as bad

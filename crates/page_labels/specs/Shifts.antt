@@ -1,7 +1,7 @@
 -- Which names stand at the shifts of a roster.
 use Rattle.std.specs.Prelude.{ℕ, ◌≡◌, ◌-◌, Bool, ◌&&◌, List, [], ◌∷◌, nat_eq, slice_get, Option, Some, None, All, if◌then◌else◌}
 use Rattle.std.specs.Str.{bytes_eq}
-use Rattle.roster_model.specs.declared.instance.Shift.{Shift}
+use Rattle.model_rosters.specs.declared.instance.Shift.{Shift}
 use Rattle.page_labels.specs.declared.fault.LabelFault.{LabelFault}
 use Rattle.page_labels.specs.declared.fault.LabelFault.TheVariants.{AnotherShift, NoShift}
 use Rattle.page_labels.specs.declared.labels.ShiftLabel.{ShiftLabel}

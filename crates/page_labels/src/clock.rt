@@ -18,7 +18,7 @@ ghost use Rattle.page_labels.specs.Clocks.{
 };
 
 use crate::fault::LabelFault;
-use roster_model::{List, Memory};
+use model_rosters::{List, Memory};
 use text_lines::{put, read_within, write_number};
 
 /// When the first period begins, and how long a period is.
@@ -94,7 +94,8 @@ fn minutes(line: u32, word: &[u8]) -> Result<u32, LabelFault>
 ///
 /// # Errors
 ///
-/// `BadNumber` where a word is no time or no number, `OutOfRange` where it is beyond its range, with the line.
+/// `BadNumber` where a word is no time or no number, `OutOfRange` where it is beyond its range, with the
+/// line.
 #[tactic(auto, unfolding(crate::specs::Clocks::clock_of))]
 pub(crate) fn clock_from(line: u32, begin: &[u8], length: &[u8]) -> Result<Clock, LabelFault>
     ensures { result ≡ clock_of line begin.now length.now }

@@ -1,6 +1,6 @@
 //! Why a labels text is refused.
 
-use roster_model::Memory;
+use model_rosters::Memory;
 use thiserror::Error;
 
 /// Why a labels text is refused. Lines count from 1.
@@ -15,8 +15,8 @@ pub enum LabelFault {
     /// A word that is no time, or no number, where one is due.
     #[error("line {line}: bad number")]
     BadNumber { line: u32 },
-    /// A time beyond 23:59, minutes beyond 1 to 1,440, words of more than 60 bytes, the number 0 of a shift, or
-    /// more than 4 decimals.
+    /// A time beyond 23:59, minutes beyond 1 to 1,440, words of more than 60 bytes, the number 0 of a shift,
+    /// or more than 4 decimals.
     #[error("line {line}: out of range")]
     OutOfRange { line: u32 },
     /// A word that is no code of the rules, where one is due.

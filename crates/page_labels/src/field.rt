@@ -5,7 +5,7 @@ ghost use Rattle.page_labels.specs.Fields.{checked, code_at, group_at, has_name,
 ghost use Rattle.page_labels.specs.Steps.{Reads};
 
 use crate::fault::LabelFault;
-use roster_model::{CodeDef, Group, List, Memory};
+use model_rosters::{CodeDef, Group, List, Memory};
 use std::alloc::Global;
 use text_lines::{Words, put, word};
 
@@ -45,8 +45,8 @@ fn checked(line: u32, text: List<u8>) -> Result<List<u8>, LabelFault>
 ///
 /// # Errors
 ///
-/// `UnknownLine` where there is none, `OutOfRange` where they have more than 60 bytes, with the line; `Memory` where
-/// memory runs out.
+/// `UnknownLine` where there is none, `OutOfRange` where they have more than 60 bytes, with the line;
+/// `Memory` where memory runs out.
 pub fn words_of(alloc: Global, line: u32, words: &mut Words<'_>) -> Result<List<u8>, LabelFault>
     ensures { Reads (λ t. t) result (words_at line words.old) }
 {

@@ -16,7 +16,7 @@ ghost use Rattle.page_labels.specs.Labels.{
 };
 
 use crate::clock::Clock;
-use roster_model::List;
+use model_rosters::List;
 use std::alloc::Global;
 
 /// What a code is called.

@@ -1,8 +1,8 @@
 //! The laws on refused labels texts and on names at shifts.
 
 ghost use Rattle.std.specs.Prelude.{◌≡◌, ◌⊎◌, ℕ, List, Err, None};
-ghost use Rattle.roster_model.specs.declared.instance.Instance.{Instance};
-ghost use Rattle.roster_model.specs.declared.instance.Shift.{Shift};
+ghost use Rattle.model_rosters.specs.declared.instance.Instance.{Instance};
+ghost use Rattle.model_rosters.specs.declared.instance.Shift.{Shift};
 ghost use Rattle.page_labels.specs.declared.fault.LabelFault.{LabelFault};
 ghost use Rattle.page_labels.specs.declared.fault.LabelFault.TheVariants.{TooLong};
 ghost use Rattle.page_labels.specs.declared.labels.ShiftLabel.{ShiftLabel};
@@ -16,8 +16,8 @@ pub fn refused_line()
         → (e ≡ TooLong) ⊎ IsFirstRefused i text e }
 {}
 
-/// States a law: where no name is refused at a roster, each stands at the shift that has its number, and this has
-/// the name's group and word.
+/// States a law: where no name is refused at a roster, each stands at the shift that has its number, and this
+/// has the name's group and word.
 pub fn names_stand_at_their_shifts()
     ensures { (labels : List ShiftLabel) (shifts : List Shift) → refused_shift labels shifts ≡ None
         → StandAll shifts labels }

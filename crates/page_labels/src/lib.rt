@@ -12,11 +12,11 @@
 //! decimals 2
 //! ```
 //!
-//! The lines stand in any order, each at most once, and those of codes, groups and shifts once for each of them. A
-//! title, a name and the words for a code or a group have 1 to 60 bytes of UTF-8, one space between words. `clock`
-//! tells when the first period begins and how many minutes a period has, `paid` whether the periods of a code that is
-//! no work count as paid, `off` which code is time off, `shift` who works a shift, and `decimals` how many decimals
-//! amounts have.
+//! The lines stand in any order, each at most once, and those of codes, groups and shifts once for each of
+//! them. A title, a name and the words for a code or a group have 1 to 60 bytes of UTF-8, one space between
+//! words. `clock` tells when the first period begins and how many minutes a period has, `paid` whether the
+//! periods of a code that is no work count as paid, `off` which code is time off, `shift` who works a shift,
+//! and `decimals` how many decimals amounts have.
 #![tactic(auto)]
 
 mod clock;

@@ -31,7 +31,7 @@ use crate::labels::{
 };
 use crate::shift_line::shift_line;
 use crate::text_line::Line;
-use roster_model::{CodeDef, Instance};
+use model_rosters::{CodeDef, Instance};
 use std::alloc::Global;
 use text_lines::{Words, read_within};
 

@@ -4,7 +4,7 @@ ghost use Rattle.std.specs.Prelude.{◌≡◌, ◌++◌, [], ◌∷◌, IfOk};
 ghost use Rattle.page_labels.specs.FaultLine.{line_of, fault_text, fault_line};
 
 use crate::fault::LabelFault;
-use roster_model::{List, Memory};
+use model_rosters::{List, Memory};
 use std::alloc::Global;
 use text_lines::{put, put_place};
 

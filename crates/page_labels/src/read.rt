@@ -1,7 +1,7 @@
 //! A labels text, read from its first line to its end.
 
 ghost use Rattle.std.specs.Prelude.{◌≡◌, ◌<◌, ◌≤◌, ◌^◌, length};
-ghost use Rattle.roster_model.specs.SoundInstance.{IsSoundInstance};
+ghost use Rattle.model_rosters.specs.SoundInstance.{IsSoundInstance};
 ghost use Rattle.page_labels.specs.Labels.{nothing};
 ghost use Rattle.page_labels.specs.LabelsOf.{item_at, labels_of};
 ghost use Rattle.page_labels.specs.Steps.{each, Reads};
@@ -11,7 +11,7 @@ use crate::fault::LabelFault;
 use crate::labels::{Labels, no_labels};
 use crate::line::line;
 use crate::text_line::{Line, Lines};
-use roster_model::Instance;
+use model_rosters::Instance;
 use std::alloc::Global;
 use text_lines::BadByte;
 
@@ -53,8 +53,8 @@ fn lines(alloc: Global, instance: &Instance, text: &[u8]) -> Result<Labels, Labe
 /// Reads a labels text for an instance, or the first fault of the text.
 ///
 /// A text that is too long is refused before all else. Then the lines are read in order, and the first that
-/// cannot stand gives the fault; in a line a bad byte comes first, then how many words there are, then the words
-/// from left to right, then that such a line stands before.
+/// cannot stand gives the fault; in a line a bad byte comes first, then how many words there are, then the
+/// words from left to right, then that such a line stands before.
 ///
 /// # Errors
 ///

@@ -5,7 +5,7 @@ ghost use Rattle.page_labels.specs.Shifts.{is_its_shift, refused_shift, refused_
 
 use crate::fault::LabelFault;
 use crate::labels::ShiftLabel;
-use roster_model::Shift;
+use model_rosters::Shift;
 
 // Whether a name stands at a shift of its group with its word.
 fn is_its_shift(label: &ShiftLabel, shift: &Shift) -> bool
@@ -30,9 +30,10 @@ fn refused_at(label: &ShiftLabel, shifts: &[Shift]) -> Option<LabelFault>
     }
 }
 
-/// Returns the fault of the first named shift that a roster does not have under its number: `NoShift` where the number
-/// is beyond the roster's shifts, `AnotherShift` where the shift has another group or another word; with the line.
-/// `None` where each name stands at its shift. It comes after the faults of [`crate::read_labels`].
+/// Returns the fault of the first named shift that a roster does not have under its number: `NoShift` where
+/// the number is beyond the roster's shifts, `AnotherShift` where the shift has another group or another
+/// word; with the line. `None` where each name stands at its shift. It comes after the faults of
+/// [`crate::read_labels`].
 pub fn refused_shift(labels: &[ShiftLabel], shifts: &[Shift]) -> Option<LabelFault>
     ensures { result ≡ refused_shift labels.now shifts.now }
 {

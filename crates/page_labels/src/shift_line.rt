@@ -9,7 +9,7 @@ ghost use Rattle.text_lines.specs.Fields.{number_at};
 use crate::fault::LabelFault;
 use crate::field::{group, words_of};
 use crate::labels::{Labels, ShiftLabel, has_shift};
-use roster_model::{Instance, List, Memory};
+use model_rosters::{Instance, List, Memory};
 use std::alloc::Global;
 use text_lines::{Words, put, read_within};
 

@@ -50,8 +50,8 @@ impl<'a> Line<'a> {
     }
 }
 
-/// A cursor over the lines of a labels text that have a word or a bad byte. A contract sees the list of what is
-/// still to come.
+/// A cursor over the lines of a labels text that have a word or a bad byte. A contract sees the list of what
+/// is still to come.
 #[derive(Drop)]
 pub(crate) struct Lines<'a> {
     passed: u32,

@@ -3,7 +3,7 @@ use Rattle.std.proofs.Common.{◌≡◌, ◌≢◌, ℕ, ◌<◌, List, [], ◌�
 use Rattle.std.proofs.lemmas.Bool.Decides.{eqb_tells}
 use Rattle.std.specs.List.{flat_map}
 use Rattle.std.specs.Prelude.{codes}
-use Rattle.roster_model.specs.Folds.{Each, In}
+use Rattle.model_rosters.specs.Folds.{Each, In}
 use Rattle.page_parts.specs.Elements.{escaped}
 use Rattle.page_parts.specs.Escapes.{references, BeginWithReference, IsNoMark, AreEscaped}
 

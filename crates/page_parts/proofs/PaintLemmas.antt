@@ -3,7 +3,7 @@ use Rattle.std.proofs.Common.{◌≡◌, ℕ, ◌+◌, List, [], ◌∷◌, refl
 use Rattle.std.proofs.lemmas.Bool.{eq-eqb}
 use Rattle.std.proofs.lemmas.Bool.Decides.{eqb_tells}
 use Rattle.std.specs.Prelude.{min}
-use Rattle.roster_model.specs.declared.grammar.CodeDef.{CodeDef}
+use Rattle.model_rosters.specs.declared.grammar.CodeDef.{CodeDef}
 use Rattle.page_parts.specs.Escapes.{IsOneToOne, recoded}
 use Rattle.page_parts.specs.Paints.{paint_from, paint_of}
 

@@ -7,7 +7,7 @@ use Rattle.std.proofs.Math.Nat.{mod-lt}
 use Rattle.std.specs.Fmt.{decimal}
 use Rattle.std.specs.List.{flat_map}
 use Rattle.std.specs.Prelude.{if◌then◌else◌, nat_lt}
-use Rattle.roster_model.specs.Folds.{Each}
+use Rattle.model_rosters.specs.Folds.{Each}
 use Rattle.page_parts.specs.Amounts.{ShowsUnits, behind_point, with_decimals}
 use Rattle.page_parts.specs.Elements.{decimal_at, decimals_behind, element_text, places, tenths, units, written}
 

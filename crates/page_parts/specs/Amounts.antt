@@ -2,7 +2,7 @@
 use Rattle.std.specs.Prelude.{ℕ, ◌≡◌, ◌+◌, ◌*◌, ◌<◌, List, [], ◌∷◌, ◌++◌, codes, length, nat_lt, if◌then◌else◌}
 use Rattle.std.specs.Fmt.{decimal}
 use Rattle.std.specs.List.{flat_map}
-use Rattle.roster_model.specs.Folds.{Each}
+use Rattle.model_rosters.specs.Folds.{Each}
 use Rattle.page_parts.specs.Elements.{Element, marks, given, units}
 use Rattle.page_parts.specs.declared.money.Money.{Money}
 

@@ -1,7 +1,7 @@
 -- Bytes of the texts as they stand on a page, and what a page is without them.
 use Rattle.std.specs.Prelude.{ℕ, ◌≡◌, ◌≢◌, List, [], ◌∷◌, ◌++◌, codes, map}
-use Rattle.roster_model.specs.Folds.{Each, In}
-use Rattle.roster_model.specs.declared.grammar.CodeDef.{CodeDef}
+use Rattle.model_rosters.specs.Folds.{Each, In}
+use Rattle.model_rosters.specs.declared.grammar.CodeDef.{CodeDef}
 use Rattle.page_parts.specs.Elements.{Element, marks, given, number, units, bar, caption, figure}
 
 -- what stands for `<`, `>`, `&`, `"` and `'`

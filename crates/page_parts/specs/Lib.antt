@@ -1,6 +1,6 @@
 pub mod Elements
 pub mod Escapes
 pub mod Paints
-pub mod Sheets
+pub mod Axes
 pub mod Amounts
 pub mod Names

@@ -1,6 +1,6 @@
 -- The colours of codes.
 use Rattle.std.specs.Prelude.{ℕ, ◌+◌, Bool, false, nat_eq, min, List, [], ◌∷◌, if◌then◌else◌}
-use Rattle.roster_model.specs.declared.grammar.CodeDef.{CodeDef}
+use Rattle.model_rosters.specs.declared.grammar.CodeDef.{CodeDef}
 
 -- the colour of work, or that of what is no work, by its number
 abbrev pub paint : Bool → ℕ → ℕ → List ℕ

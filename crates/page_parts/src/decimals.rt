@@ -6,7 +6,7 @@ ghost use Rattle.page_parts.specs.Elements as page;
 ghost use Rattle.page_parts.specs.Elements.{all_decimals, decimal_at, decimals_behind, tenths, written};
 
 use crate::element::digits;
-use roster_model::{List, Memory};
+use model_rosters::{List, Memory};
 use text_lines::put;
 
 // Returns a number that is divided by ten so many times.

@@ -6,7 +6,7 @@ ghost use Rattle.page_parts.specs.Elements as page;
 ghost use Rattle.page_parts.specs.Elements.{area_text, at, attribute, escaped, written};
 
 use crate::area::Area;
-use roster_model::{List, Memory};
+use model_rosters::{List, Memory};
 use text_lines::{put, write_number};
 
 // Appends a byte of a text.

@@ -5,7 +5,7 @@ ghost use Rattle.page_parts.specs.Elements as page;
 ghost use Rattle.page_parts.specs.Elements.{written};
 
 use crate::element::{given, marks, number};
-use roster_model::{List, Memory};
+use model_rosters::{List, Memory};
 
 /// Appends marks, and a number behind them.
 ///

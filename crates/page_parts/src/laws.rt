@@ -2,7 +2,7 @@
 
 ghost use Rattle.std.specs.Prelude.{ℕ, ◌≡◌, ◌∷◌, [], List};
 ghost use Rattle.std.specs.List.{flat_map};
-ghost use Rattle.roster_model.specs.declared.grammar.CodeDef.{CodeDef};
+ghost use Rattle.model_rosters.specs.declared.grammar.CodeDef.{CodeDef};
 ghost use Rattle.page_parts.specs.Amounts.{ShowsUnits};
 ghost use Rattle.page_parts.specs.Elements.{escaped, units, written};
 ghost use Rattle.page_parts.specs.Escapes.{AreEscaped, IsOneToOne, recoded};

@@ -21,4 +21,4 @@ pub use laws::{amounts_are_units, bytes_are_escaped, names_end_between, paints_s
 pub use money::{Money, amount, labelled_amount, unit_behind};
 pub use names::{name_caption, text_width};
 pub use paint::paint_of;
-pub use sheet::{PeriodAxis, chart_width, left_of, middle_of, right_of, sheet_of, top_of};
+pub use sheet::{PeriodAxis, axis_of, chart_width, left_of, middle_of, right_of, top_of};

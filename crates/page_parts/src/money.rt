@@ -8,7 +8,7 @@ ghost use Rattle.page_parts.specs.Elements.{written};
 use crate::decimals::units;
 use crate::element::marks;
 use crate::label::labelled_text;
-use roster_model::{List, Memory};
+use model_rosters::{List, Memory};
 
 /// What amounts of money are counted in.
 #[derive(Debug, PartialEq, Eq, Drop)]

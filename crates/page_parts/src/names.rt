@@ -6,7 +6,7 @@ ghost use Rattle.page_parts.specs.Elements.{written};
 ghost use Rattle.page_parts.specs.Names.{begin_of, columns_of, cut_of, is_between, is_inner, is_wide, shortened, text_width};
 
 use crate::element::{begin, given};
-use roster_model::{List, Memory};
+use model_rosters::{List, Memory};
 use text_lines::put;
 
 /// How many columns a name has in a chart.

@@ -3,7 +3,7 @@
 ghost use Rattle.std.specs.Prelude.{◌≡◌, ◌≤◌};
 ghost use Rattle.page_parts.specs.Paints.{paint, paint_of};
 
-use roster_model::CodeDef;
+use model_rosters::CodeDef;
 
 // The colour of work, or that of what is no work, by its number.
 fn paint(work: bool, works: u8, idles: u8) -> [u8; 2]

@@ -1,7 +1,7 @@
 //! Where periods and rows stand.
 
 ghost use Rattle.std.specs.Prelude.{◌≡◌, ◌≤◌, ◌+◌, ◌*◌, ◌/◌, ◌^◌, min, max};
-ghost use Rattle.page_parts.specs.Sheets.{chart_width, left_of, middle_of, right_of, sheet_of, top_of, width_of};
+ghost use Rattle.page_parts.specs.Axes.{chart_width, left_of, middle_of, right_of, axis_of, top_of, width_of};
 
 /// Where the periods stand on the charts of a page.
 #[derive(Clone, Copy, Debug, PartialEq, Eq, Drop)]
@@ -25,8 +25,8 @@ fn width_of(periods: u8) -> u8
 
 /// Returns the sheet of so many periods, with room for names of so many columns, at most 25, and for amounts
 /// that are counted in words of so many, at most 60.
-pub fn sheet_of(periods: u8, longest: usize, money: usize) -> PeriodAxis
-    ensures { result ≡ sheet_of periods longest money }
+pub fn axis_of(periods: u8, longest: usize, money: usize) -> PeriodAxis
+    ensures { result ≡ axis_of periods longest money }
 {
     PeriodAxis {
         left: 56 + 8 * longest.min(25) as u32,

@@ -5,8 +5,8 @@ ghost use Rattle.page_parts.specs.Elements.{written};
 ghost use Rattle.page_tables.specs.HeadTable.{head_end, head_line, head_lines, head_table};
 
 use crate::line::HeadLine;
+use model_rosters::{List, Memory};
 use page_parts::{labelled, labelled_text, marks};
-use roster_model::{List, Memory};
 
 // Writes the numbers of a line.
 #[tactic(auto, unfolding(crate::specs::HeadTable::head_end))]

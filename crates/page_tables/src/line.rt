@@ -1,6 +1,6 @@
 //! The lines of a page's tables, as values.
 
-use roster_model::List;
+use model_rosters::List;
 
 /// A line of the table of shifts: a shift, or a stretch of it where time off is named.
 #[derive(Debug, PartialEq, Eq, Drop)]

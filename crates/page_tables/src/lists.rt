@@ -5,8 +5,8 @@ ghost use Rattle.page_parts.specs.Elements.{written};
 ghost use Rattle.page_tables.specs.RunLists.{run_end, run_front, run_line, run_lines, run_list, run_table};
 
 use crate::line::RunLine;
+use model_rosters::{List, Memory};
 use page_parts::{Money, labelled, labelled_amount, labelled_text, marks};
-use roster_model::{List, Memory};
 
 // Writes what stands before the number of a run.
 #[tactic(auto, unfolding(crate::specs::RunLists::run_front))]
@@ -71,8 +71,8 @@ fn run_table(
     marks(out, b"</tbody></table></div></section>\n")
 }
 
-/// Appends the list of runs under a title of the page's own, where there are any, with amounts that are counted in
-/// these words.
+/// Appends the list of runs under a title of the page's own, where there are any, with amounts that are
+/// counted in these words.
 ///
 /// # Errors
 ///

@@ -5,8 +5,8 @@ ghost use Rattle.page_parts.specs.Elements.{written};
 ghost use Rattle.page_tables.specs.MomentTable.{moment_line, moment_lines, moment_list, moment_table};
 
 use crate::line::MomentLine;
+use model_rosters::{List, Memory};
 use page_parts::{labelled, labelled_text, marks};
-use roster_model::{List, Memory};
 
 // Writes the line of a time.
 #[tactic(auto, unfolding(crate::specs::MomentTable::moment_line))]

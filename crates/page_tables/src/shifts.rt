@@ -5,8 +5,8 @@ ghost use Rattle.page_parts.specs.Elements.{written};
 ghost use Rattle.page_tables.specs.ShiftTable.{first_cells, group_head, last_cells, line_end, line_front, shift_line, shift_lines, shift_table, text_cell, text_cell_if, who_head};
 
 use crate::line::ShiftLine;
+use model_rosters::{List, Memory};
 use page_parts::{Money, labelled, labelled_amount, labelled_text, marks};
-use roster_model::{List, Memory};
 
 // Writes a cell.
 #[tactic(auto, unfolding(crate::specs::ShiftTable::text_cell))]

@@ -10,8 +10,8 @@ use crate::lists::run_list;
 use crate::moments::moment_list;
 use crate::shifts::shift_table;
 use crate::totals::total_table;
+use model_rosters::{List, Memory};
 use page_parts::{Money, marks};
-use roster_model::{List, Memory};
 
 /// What the tables and lists of a page show.
 #[derive(Debug, PartialEq, Eq, Drop)]
@@ -57,8 +57,8 @@ fn some_tables(out: &mut List<u8>, money: &Money, tables: &Tables) -> Result<(),
     marks(out, b"</div>\n")
 }
 
-/// Appends the tables and lists of a page, where there are any shifts, with amounts that are counted in these words,
-/// or bare where there are none.
+/// Appends the tables and lists of a page, where there are any shifts, with amounts that are counted in these
+/// words, or bare where there are none.
 ///
 /// # Errors
 ///

@@ -5,8 +5,8 @@ ghost use Rattle.page_parts.specs.Elements.{written};
 ghost use Rattle.page_tables.specs.TotalTable.{all_line, all_share, share_cell, share_of, total_front, total_line, total_lines, total_table};
 
 use crate::line::TotalLine;
+use model_rosters::{List, Memory};
 use page_parts::{labelled, labelled_text, marks, number};
-use roster_model::{List, Memory};
 
 // Writes a share in percent.
 #[tactic(auto, unfolding(crate::specs::TotalTable::share_of))]

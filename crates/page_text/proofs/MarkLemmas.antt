@@ -4,21 +4,21 @@ use Rattle.std.proofs.lemmas.List.{map-append}
 use Rattle.std.proofs.lemmas.Option.{slice_get-map}
 use Rattle.std.specs.List.{flat_map}
 use Rattle.std.specs.Prelude.{codes, if◌then◌else◌, min, nat_lt, option_map, slice_get}
-use Rattle.roster_model.specs.declared.grammar.CodeDef.{CodeDef}
+use Rattle.model_rosters.specs.declared.grammar.CodeDef.{CodeDef}
 use Rattle.page_parts.specs.Amounts.{AreSaidAlike, amount, unit_behind}
 use Rattle.page_parts.specs.Elements.{Element, bar, caption, each_from, given, marks, number, places, units}
 use Rattle.page_parts.specs.Escapes.{IsOneToOne, mark_of, marks_of, recoded}
 use Rattle.page_parts.specs.Paints.{paint_of}
-use Rattle.page_parts.specs.Sheets.{chart_width, middle_of, sheet_of, top_of}
+use Rattle.page_parts.specs.Axes.{chart_width, middle_of, axis_of, top_of}
 use Rattle.page_parts.specs.declared.money.Money.{Money}
 use Rattle.page_parts.specs.declared.sheet.PeriodAxis.{PeriodAxis}
 use Rattle.page_parts.proofs.AmountLemmas.{behind_same, unit_same}
 use Rattle.page_parts.proofs.PaintLemmas.{same_paint, same_test}
 use Rattle.page_text.specs.Costs.{amount_or_none, both_sums, bound_of, bound_part, chip, code_cost, code_costs, costs, demanded_cost, gap, is_demanded, is_told, no_roster, penalties, saves, sentence, sentence_over, sums, told}
-use Rattle.shift_figures.specs.Bounds.{saving_at}
-use Rattle.shift_figures.specs.Stretches.{is_off}
-use Rattle.shift_figures.specs.declared.bound.Saving.{Saving}
-use Rattle.shift_figures.specs.declared.bound.Saving.TheVariants.{NoneLess, Unknown, AtMost}
+use Rattle.model_shift_figures.specs.Bounds.{saving_at}
+use Rattle.model_shift_figures.specs.Stretches.{is_off}
+use Rattle.model_shift_figures.specs.declared.bound.Saving.{Saving}
+use Rattle.model_shift_figures.specs.declared.bound.Saving.TheVariants.{NoneLess, Unknown, AtMost}
 use Rattle.page_text.specs.declared.column.CellCover.{CellCover}
 use Rattle.page_text.specs.declared.figures.Figures.{Figures}
 use Rattle.page_text.specs.Alike.{AreAlikeRows, IsAlike, IsAlikeRow}
@@ -426,11 +426,11 @@ module _ (f : ℕ → ℕ) (one : IsOneToOne f) where
         footed,
       )
 
-  same_sheet : (periods a b u v : ℕ) → min a 25 ≡ min b 25 → min u 60 ≡ min v 60 → sheet_of periods a u ≡ sheet_of periods b v
+  same_sheet : (periods a b u v : ℕ) → min a 25 ≡ min b 25 → min u 60 ≡ min v 60 → axis_of periods a u ≡ axis_of periods b v
   same_sheet periods a b u v e g = rw (e, g) refl
 
   pub page_same : (periods : ℕ) (cs : List CodeDef) (c d : Content) → IsAlike f c d → min (longest d.rows 0) 25 ≡ min (longest c.rows 0) 25 → min (length d.money.words) 60 ≡ min (length c.money.words) 60
       → Same (page periods (recoded f cs) d) (page periods cs c)
   page_same periods cs c d h e g =
       ap (λ (s : PeriodAxis). marks_of (body s (recoded f cs) d)) (same_sheet periods (longest d.rows 0) (longest c.rows 0) (length d.money.words) (length c.money.words) e g)
-      ∙ body_same (sheet_of periods (longest c.rows 0) (length c.money.words)) cs c d h
+      ∙ body_same (axis_of periods (longest c.rows 0) (length c.money.words)) cs c d h

@@ -2,9 +2,9 @@
 use Rattle.std.proofs.Common.{ℕ, List, [], ◌∷◌, ◌++◌, length, refl, sym, ap, ◌∙◌, append_assoc}
 use Rattle.std.proofs.lemmas.Grind.{flat_map-append}
 use Rattle.std.specs.Prelude.{codes}
-use Rattle.roster_model.specs.declared.grammar.CodeDef.{CodeDef}
+use Rattle.model_rosters.specs.declared.grammar.CodeDef.{CodeDef}
 use Rattle.page_parts.specs.Elements.{Element, element_text, marks, written}
-use Rattle.page_parts.specs.Sheets.{sheet_of}
+use Rattle.page_parts.specs.Axes.{axis_of}
 use Rattle.page_parts.specs.declared.sheet.PeriodAxis.{PeriodAxis}
 use Rattle.page_text.specs.Alike.{EndsWith}
 use Rattle.page_text.specs.Inputs.{longest}
@@ -34,4 +34,4 @@ body_ends s cs c =
     (behind (codes "</html>\n") (foot_part c.stated c.read) _ last)))))
 
 pub page_ends : (periods : ℕ) (cs : List CodeDef) (c : Content) → EndsWith (codes "</html>\n") (written (page periods cs c))
-page_ends periods cs c = body_ends (sheet_of periods (longest c.rows 0) (length c.money.words)) cs c
+page_ends periods cs c = body_ends (axis_of periods (longest c.rows 0) (length c.money.words)) cs c

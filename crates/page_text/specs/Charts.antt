@@ -2,7 +2,7 @@
 use Rattle.std.specs.Prelude.{ℕ, ◌+◌, ◌-◌, ◌*◌, ◌/◌, ◌%◌, Bool, ◌&&◌, List, [], ◌∷◌, ◌++◌, nat_eq, nat_le, nat_lt, codes, max, min, if◌then◌else◌}
 use Rattle.std.specs.List.{flat_map}
 use Rattle.page_parts.specs.Elements.{Element, marks, number, bar, figure, places}
-use Rattle.page_parts.specs.Sheets.{left_of, right_of}
+use Rattle.page_parts.specs.Axes.{left_of, right_of}
 use Rattle.page_parts.specs.declared.sheet.PeriodAxis.{PeriodAxis}
 use Rattle.page_text.specs.declared.column.CellCover.{CellCover}
 use Rattle.page_text.specs.declared.ink.Ink.{Ink}

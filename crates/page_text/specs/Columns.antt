@@ -1,9 +1,9 @@
 -- How a roster covers a cell.
 use Rattle.std.specs.Prelude.{List}
-use Rattle.roster_model.specs.declared.grammar.Grammar.{Grammar}
-use Rattle.roster_model.specs.declared.instance.Cell.{Cell}
-use Rattle.roster_model.specs.Coverage.{covered, understaffing, overstaffing, penalty}
-use Rattle.roster_model.specs.Duties.{Duty}
+use Rattle.model_rosters.specs.declared.grammar.Grammar.{Grammar}
+use Rattle.model_rosters.specs.declared.instance.Cell.{Cell}
+use Rattle.model_rosters.specs.Coverage.{covered, understaffing, overstaffing, penalty}
+use Rattle.model_rosters.specs.Duties.{Duty}
 use Rattle.page_text.specs.declared.column.CellCover.{CellCover}
 
 -- how the employees cover a cell, and what that costs

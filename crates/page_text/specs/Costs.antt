@@ -1,16 +1,16 @@
 -- What the roster costs, and how good it is.
 use Rattle.std.specs.Prelude.{ℕ, ◌≤◌, ◌+◌, ◌-◌, ◌/◌, ◌%◌, Option, None, Some, List, [], ◌∷◌, ◌++◌, All, Bool, true, ◌||◌, length, nat_eq, nat_lt, codes, if◌then◌else◌}
 use Rattle.std.specs.List.{list_any}
-use Rattle.roster_model.specs.declared.grammar.CodeDef.{CodeDef}
+use Rattle.model_rosters.specs.declared.grammar.CodeDef.{CodeDef}
 use Rattle.page_parts.specs.Amounts.{amount}
 use Rattle.page_parts.specs.Elements.{Element, each_from, marks, given, number}
 use Rattle.page_parts.specs.Paints.{paint_of}
 use Rattle.page_parts.specs.declared.money.Money.{Money}
 use Rattle.page_text.specs.declared.column.CellCover.{CellCover}
 use Rattle.page_text.specs.declared.figures.Figures.{Figures}
-use Rattle.shift_figures.specs.Bounds.{saving_at}
-use Rattle.shift_figures.specs.declared.bound.Saving.{Saving}
-use Rattle.shift_figures.specs.declared.bound.Saving.TheVariants.{NoneLess, Unknown, AtMost}
+use Rattle.model_shift_figures.specs.Bounds.{saving_at}
+use Rattle.model_shift_figures.specs.declared.bound.Saving.{Saving}
+use Rattle.model_shift_figures.specs.declared.bound.Saving.TheVariants.{NoneLess, Unknown, AtMost}
 
 -- the sentence of what a cheaper roster saves at most, with its share in tenths of a percent
 unfoldable pub saves : Money → ℕ → ℕ → List Element

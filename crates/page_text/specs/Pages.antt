@@ -1,9 +1,9 @@
 -- The page.
 use Rattle.std.specs.Prelude.{ℕ, Bool, ◌+◌, ◌-◌, ◌*◌, None, Some, List, [], ◌∷◌, ◌++◌, length, nat_eq, nat_lt, slice_get, codes, if◌then◌else◌}
 use Rattle.std.specs.List.{flat_map}
-use Rattle.roster_model.specs.declared.grammar.CodeDef.{CodeDef}
+use Rattle.model_rosters.specs.declared.grammar.CodeDef.{CodeDef}
 use Rattle.page_parts.specs.Elements.{Element, each_from, marks, given, number, units, caption, places}
-use Rattle.page_parts.specs.Sheets.{chart_width, sheet_of}
+use Rattle.page_parts.specs.Axes.{chart_width, axis_of}
 use Rattle.page_parts.specs.declared.sheet.PeriodAxis.{PeriodAxis}
 use Rattle.page_parts.specs.declared.money.Money.{Money}
 use Rattle.page_text.specs.Changes.{changes_part}
@@ -197,4 +197,4 @@ body s cs c =
 
 -- the elements of the page, in order
 abbrev pub page : ℕ → List CodeDef → Content → List Element
-page periods cs c = body (sheet_of periods (longest c.rows 0) (length c.money.words)) cs c
+page periods cs c = body (axis_of periods (longest c.rows 0) (length c.money.words)) cs c

@@ -1,16 +1,16 @@
 -- The chart of the shifts: one row a shift, a bar for each period.
 use Rattle.std.specs.Prelude.{ℕ, ◌+◌, ◌-◌, ◌%◌, Bool, Option, None, Some, List, [], ◌∷◌, ◌++◌, length, nat_eq, nat_lt, slice_get, codes, if◌then◌else◌}
 use Rattle.std.specs.List.{flat_map}
-use Rattle.roster_model.specs.declared.grammar.CodeDef.{CodeDef}
+use Rattle.model_rosters.specs.declared.grammar.CodeDef.{CodeDef}
 use Rattle.page_parts.specs.Amounts.{amount}
 use Rattle.page_parts.specs.Elements.{Element, each_from, marks, given, number, bar, caption, figure, places}
 use Rattle.page_parts.specs.Names.{shortened}
 use Rattle.page_parts.specs.Paints.{paint_of}
-use Rattle.page_parts.specs.Sheets.{left_of, middle_of, chart_width, top_of}
+use Rattle.page_parts.specs.Axes.{left_of, middle_of, chart_width, top_of}
 use Rattle.page_parts.specs.declared.sheet.PeriodAxis.{PeriodAxis}
 use Rattle.page_parts.specs.declared.money.Money.{Money}
 use Rattle.page_text.specs.declared.row.Row.{Row}
-use Rattle.shift_figures.specs.Stretches.{is_off}
+use Rattle.model_shift_figures.specs.Stretches.{is_off}
 
 -- the bar of a letter of a row, at the period behind so many
 unfoldable pub letter_bar : PeriodAxis → List CodeDef → ℕ → ℕ → ℕ → List Element

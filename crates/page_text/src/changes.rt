@@ -4,8 +4,8 @@ ghost use Rattle.std.specs.Prelude.{◌≡◌, ◌++◌, OnOk};
 ghost use Rattle.page_parts.specs.Elements.{written};
 ghost use Rattle.page_text.specs.Changes.{changes_part, differ, none_differ, plural, some_differ};
 
+use model_rosters::{List, Memory};
 use page_parts::{labelled, marks};
-use roster_model::{List, Memory};
 
 /// How much differs from an old roster.
 #[derive(Clone, Copy, Debug, PartialEq, Eq, Drop)]

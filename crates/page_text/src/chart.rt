@@ -36,8 +36,8 @@ ghost use Rattle.page_text.specs.Charts.{
 
 use crate::CellCover;
 use crate::ink::Ink;
+use model_rosters::{List, Memory};
 use page_parts::{Area, PeriodAxis, bar, figure, labelled, left_of, marks, right_of};
-use roster_model::{List, Memory};
 
 /// Where a chart ends at its bottom.
 const BASE: u64 = 112;
@@ -373,7 +373,8 @@ fn axis_step(top: u32) -> u32
     }
 }
 
-// Whether the axis has a line at a count below the greatest, whose number has room below that of the greatest.
+// Whether the axis has a line at a count below the greatest, whose number has room below that of the
+// greatest.
 fn is_axis_count(unit: u8, top: u32, count: u32) -> bool
     ensures { result ≡ is_axis_count unit top count }
 {

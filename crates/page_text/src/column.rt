@@ -1,11 +1,11 @@
 //! How a code is covered in one period.
 
 ghost use Rattle.std.specs.Prelude.{◌≡◌, ◌≤◌, ◌++◌, All, length, map, OnOk};
-ghost use Rattle.roster_model.specs.Duties.{duty};
-ghost use Rattle.roster_model.specs.Limits.{IsDayCell};
+ghost use Rattle.model_rosters.specs.Duties.{duty};
+ghost use Rattle.model_rosters.specs.Limits.{IsDayCell};
 ghost use Rattle.page_text.specs.Columns.{column_of};
 
-use roster_model::{Cell, Grammar, List, Memory, Shift, covered, penalty};
+use model_rosters::{Cell, Grammar, List, Memory, Shift, covered, penalty};
 
 /// How a code is covered in one period.
 #[derive(Clone, Copy, Debug, PartialEq, Eq, Drop)]

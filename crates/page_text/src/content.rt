@@ -3,9 +3,9 @@
 use crate::changes::Changes;
 use crate::row::Row;
 use crate::{CellCover, Figures};
+use model_rosters::List;
 use page_parts::Money;
 use page_tables::Tables;
-use roster_model::List;
 
 /// A text from which a page was made.
 #[derive(Debug, Drop)]

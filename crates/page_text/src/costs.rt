@@ -32,9 +32,9 @@ ghost use Rattle.page_text.specs.Costs.{
 
 use crate::column::CellCover;
 use crate::figures::Figures;
+use model_rosters::{CodeDef, List, Memory};
+use model_shift_figures::{Saving, saving_at};
 use page_parts::{Money, amount, labelled, labelled_amount, labelled_text, marks, paint_of};
-use roster_model::{CodeDef, List, Memory};
-use shift_figures::{Saving, saving_at};
 
 // Writes the sentence of what a cheaper roster saves at most, with its share in tenths of a percent.
 #[tactic(auto, unfolding(crate::specs::Costs::saves))]
@@ -121,8 +121,8 @@ fn sentence_over(
     }
 }
 
-/// Appends the sentence of how good the roster is, or of what the bound says where there is none, with amounts that
-/// are counted in these words, or bare where there are none.
+/// Appends the sentence of how good the roster is, or of what the bound says where there is none, with
+/// amounts that are counted in these words, or bare where there are none.
 ///
 /// # Errors
 ///

@@ -1,7 +1,7 @@
 //! The laws on the marks and the end of a page.
 
 ghost use Rattle.std.specs.Prelude.{ℕ, ◌≡◌, List, codes as text, length, min};
-ghost use Rattle.roster_model.specs.declared.grammar.CodeDef.{CodeDef};
+ghost use Rattle.model_rosters.specs.declared.grammar.CodeDef.{CodeDef};
 ghost use Rattle.page_parts.specs.Elements.{written};
 ghost use Rattle.page_parts.specs.Escapes.{IsOneToOne, marks_of, recoded};
 ghost use Rattle.page_parts.specs.declared.sheet.PeriodAxis.{PeriodAxis};

@@ -52,12 +52,12 @@ use crate::ink::Ink;
 use crate::roster_chart::{row_words, rows, ticks};
 use crate::row::{Row, longest};
 use crate::style::style;
+use model_rosters::{CodeDef, List, Memory};
 use page_parts::{
-    Money, PeriodAxis, caption, chart_width, given, labelled, labelled_amount, labelled_text,
-    marks, sheet_of, units,
+    Money, PeriodAxis, axis_of, caption, chart_width, given, labelled, labelled_amount,
+    labelled_text, marks, units,
 };
 use page_tables::add_tables;
-use roster_model::{CodeDef, List, Memory};
 use std::alloc::Global;
 
 // Writes the size of a chart.
@@ -647,7 +647,7 @@ pub fn write_page(
 {
     let mut out = List::new(alloc);
     let longest = longest(content.rows.as_slice());
-    let sheet = sheet_of(periods, longest, content.money.words.len());
+    let sheet = axis_of(periods, longest, content.money.words.len());
     body(&mut out, sheet, codes, content)?;
     Ok(out)
 }

@@ -32,14 +32,14 @@ ghost use Rattle.page_text.specs.RosterChart.{
   times_of,
   who,
 };
-ghost use Rattle.shift_figures.specs.Stretches.{is_off};
+ghost use Rattle.model_shift_figures.specs.Stretches.{is_off};
 
 use crate::row::Row;
+use model_rosters::{CodeDef, List, Memory};
 use page_parts::{
     Area, Money, PeriodAxis, bar, caption, chart_width, figure, given, labelled, labelled_amount,
     left_of, marks, middle_of, name_caption, number, paint_of, top_of,
 };
-use roster_model::{CodeDef, List, Memory};
 
 // Whether a byte is the one of time off.
 fn is_off(off: Option<u8>, byte: u8) -> bool

@@ -3,8 +3,8 @@
 ghost use Rattle.std.specs.Prelude.{◌≡◌, ◌≤◌, max, length};
 ghost use Rattle.page_text.specs.Inputs.{longest};
 
+use model_rosters::List;
 use page_parts::text_width;
-use roster_model::List;
 
 /// A row of the chart of shifts.
 #[derive(Debug, PartialEq, Eq, Drop)]

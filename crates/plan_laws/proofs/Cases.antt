@@ -3,9 +3,9 @@ use Rattle.std.proofs.Common.{◌≡◌, ◌≢◌, ◌⊎◌, ℕ, zero, suc, �
 use Rattle.std.proofs.Math.Nat.{eq-or-lt_of_le}
 use Rattle.std.proofs.lemmas.Bool.{eq-eqb, eqb-true, le-leb}
 use Rattle.std.proofs.lemmas.Bool.Decides.{eqb_tells}
-use Rattle.roster_model.specs.declared.grammar.Window.{Window}
-use Rattle.roster_model.specs.Folds.{In}
-use Rattle.roster_model.specs.Grammar.{IsInWindow}
+use Rattle.model_rosters.specs.declared.grammar.Window.{Window}
+use Rattle.model_rosters.specs.Folds.{In}
+use Rattle.model_rosters.specs.Grammar.{IsInWindow}
 use Rattle.plan_laws.specs.declared.period_plan.PeriodDuty.{PeriodDuty}
 use Rattle.plan_laws.specs.declared.period_plan.PeriodPlan.{PeriodPlan}
 use Rattle.plan_laws.specs.PeriodShifts.{IsDuty, IsStart}

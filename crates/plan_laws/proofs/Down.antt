@@ -2,9 +2,9 @@
 use Rattle.std.proofs.Common.{◌≡◌, ◌≢◌, Bool, true, false, not, nat_le, nat_eq, IsTrue, ◌⊎◌, ℕ, zero, suc, ◌<◌, ◌≤◌, ◌+◌, ◌-◌, ◌*◌, Option, None, Some, List, [], ◌∷◌, ◌++◌, length, map, arith, refl, subst, sym, ap, ◌∙◌, length-append, append-nil, inl, inr}
 use Rattle.std.proofs.Math.Nat.{eq-or-lt_of_le}
 use Rattle.std.proofs.lemmas.Bool.{eqb-true, le-leb}
-use Rattle.roster_model.specs.Grammar.{IsInWindow}
-use Rattle.roster_model.specs.declared.grammar.Window.{Window}
-use Rattle.roster_model.specs.Folds.{In, Each}
+use Rattle.model_rosters.specs.Grammar.{IsInWindow}
+use Rattle.model_rosters.specs.declared.grammar.Window.{Window}
+use Rattle.model_rosters.specs.Folds.{In, Each}
 use Rattle.plan_laws.specs.Named.{Symbol, coded, named, NamedRule, Fits, SideBySide, ByRule, Kept}
 use Rattle.plan_laws.specs.declared.period_plan.Activity.{Activity}
 use Rattle.plan_laws.specs.declared.period_plan.PeriodDuty.{PeriodDuty}

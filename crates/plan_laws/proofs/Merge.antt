@@ -2,7 +2,7 @@
 -- neighbours differ, of no more blocks.
 use Rattle.std.proofs.Common.{◌≡◌, ◌≢◌, ◌⊎◌, ℕ, ◌≤◌, ◌+◌, Bool, true, false, IsTrue, eqb, List, [], ◌∷◌, ◌++◌, length, arith, refl, subst, sym, ap, ◌∙◌, length-append, append_assoc, inl, inr}
 use Rattle.std.proofs.lemmas.Bool.Decides.{eqb_tells}
-use Rattle.roster_model.specs.Folds.{In, Each}
+use Rattle.model_rosters.specs.Folds.{In, Each}
 use Rattle.plan_laws.specs.declared.period_plan.Activity.{Activity}
 use Rattle.plan_laws.specs.PeriodShifts.{Alone, Block, IsBlock, joined, Differ}
 use Rattle.plan_laws.specs.Names.{Loose}

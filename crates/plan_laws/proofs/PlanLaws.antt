@@ -1,12 +1,12 @@
 -- Stretches and shifts against trees, and prices against least costs.
 use Rattle.std.proofs.Common.{◌≡◌, ◌⊎◌, inl, inr, ℕ, ◌≤◌, ◌+◌, ◌↔◌, List, [], ◌∷◌, length, arith, refl, subst, sym, ap, ◌∙◌, append-nil, le_antisymm}
-use Rattle.roster_model.specs.declared.grammar.Grammar.{Grammar}
-use Rattle.roster_model.specs.declared.grammar.Window.{Window}
-use Rattle.roster_model.specs.declared.grammar.Sym.TheVariants.{Name}
-use Rattle.roster_model.specs.Folds.{In}
-use Rattle.roster_model.specs.Trees.{Parts, done, uses, span_length, Derive, word}
-use Rattle.roster_model.specs.Shifts.{IsWordTree, IsPrice}
-use Rattle.roster_model.specs.Arcs.{cost}
+use Rattle.model_rosters.specs.declared.grammar.Grammar.{Grammar}
+use Rattle.model_rosters.specs.declared.grammar.Window.{Window}
+use Rattle.model_rosters.specs.declared.grammar.Sym.TheVariants.{Name}
+use Rattle.model_rosters.specs.Folds.{In}
+use Rattle.model_rosters.specs.Trees.{Parts, done, uses, span_length, Derive, word}
+use Rattle.model_rosters.specs.Shifts.{IsWordTree, IsPrice}
+use Rattle.model_rosters.specs.Arcs.{cost}
 use Rattle.plan_laws.specs.Named.{named, Numbers, Kept}
 use Rattle.plan_laws.specs.declared.period_plan.Activity.{Activity}
 use Rattle.plan_laws.specs.declared.period_plan.PeriodDuty.{PeriodDuty}

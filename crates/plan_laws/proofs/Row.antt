@@ -1,8 +1,8 @@
 -- Worked rows: shifts of a small plan with their prices, by a line without and with plus, which have no other price; rests;
 -- a stretch.
 use Rattle.std.proofs.Common.{None, ◌≡◌, ◌≢◌, ap, sym, ◌∙◌, ℕ, true, false, ◌≤◌, Some, List, [], ◌∷◌, length, arith, refl, inl, inr}
-use Rattle.roster_model.specs.declared.grammar.Window.{Window}
-use Rattle.roster_model.specs.Folds.{In}
+use Rattle.model_rosters.specs.declared.grammar.Window.{Window}
+use Rattle.model_rosters.specs.Folds.{In}
 use Rattle.plan_laws.specs.declared.period_plan.Activity.{Activity}
 use Rattle.plan_laws.specs.declared.period_plan.PeriodDuty.{PeriodDuty}
 use Rattle.plan_laws.specs.declared.period_plan.PeriodPlan.{PeriodPlan}

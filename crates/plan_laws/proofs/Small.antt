@@ -1,7 +1,7 @@
 -- The grammar of the small plan is written for it, and the law for its day.
 use Rattle.std.proofs.Common.{◌≡◌, ℕ, ◌≤◌, ◌+◌, true, false, Some, List, [], ◌∷◌, arith, refl, sym, subst, ap, ◌∙◌, inl, inr}
-use Rattle.roster_model.specs.Folds.{In, Each}
-use Rattle.roster_model.specs.Trees.{byte_of}
+use Rattle.model_rosters.specs.Folds.{In, Each}
+use Rattle.model_rosters.specs.Trees.{byte_of}
 use Rattle.plan_laws.specs.declared.period_plan.Activity.{Activity}
 use Rattle.plan_laws.specs.PeriodShifts.{IsLetter, IsLine}
 use Rattle.plan_laws.specs.Names.{at, block, work, rest, off, duty, day, IsSet, IsGoodDuty}

@@ -1,8 +1,8 @@
 -- Each period is in a spell, at that spell's cost.
 use Rattle.std.proofs.Common.{◌≡◌, ◌≢◌, ◌⊎◌, ℕ, zero, suc, ◌<◌, ◌≤◌, ◌+◌, Bool, true, false, cond, ◌&&◌, eqb, List, [], ◌∷◌, arith, refl, subst, sym, ap, ◌∙◌, inl, inr}
 use Rattle.std.proofs.lemmas.Bool.Decides.{eqb_tells}
-use Rattle.roster_model.specs.Folds.{In, Each}
-use Rattle.roster_model.specs.Grammar.{IsInWindow}
+use Rattle.model_rosters.specs.Folds.{In, Each}
+use Rattle.model_rosters.specs.Grammar.{IsInWindow}
 use Rattle.plan_laws.specs.declared.period_plan.PeriodPlan.{PeriodPlan}
 use Rattle.plan_laws.specs.Names.{whole, spell_window}
 use Rattle.plan_laws.specs.Spells.{Spell, joined_to, spells}

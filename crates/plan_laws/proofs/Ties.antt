@@ -2,9 +2,9 @@
 -- and that of its changes.
 use Rattle.std.proofs.Common.{◌≡◌, ◌↔◌, ◌⊎◌, ◌≤◌, ◌<◌, ◌-◌, suc, inl, inr, le_antisymm, le_of_eq, mul-le-mul_right, mul-le-mul_left, ℕ, ◌+◌, ◌*◌, List, [], ◌∷◌, Option, Some, slice_get, length, arith, sym, ap, ◌∙◌}
 use Rattle.std.proofs.Math.Nat.{le_of_mul-le-mul_left}
-use Rattle.roster_model.specs.declared.grammar.Grammar.{Grammar}
-use Rattle.roster_model.specs.declared.grammar.Window.{Window}
-use Rattle.roster_model.specs.Folds.{In}
+use Rattle.model_rosters.specs.declared.grammar.Grammar.{Grammar}
+use Rattle.model_rosters.specs.declared.grammar.Window.{Window}
+use Rattle.model_rosters.specs.Folds.{In}
 use Rattle.plan_laws.specs.declared.period_plan.PeriodDuty.{PeriodDuty}
 use Rattle.plan_laws.specs.declared.period_plan.PeriodPart.{PeriodPart}
 use Rattle.plan_laws.specs.declared.period_plan.PeriodPlan.{PeriodPlan}

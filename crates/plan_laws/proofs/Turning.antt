@@ -5,9 +5,9 @@ use Rattle.std.proofs.Math.Nat.{le_of_mul-le-mul_right}
 use Rattle.std.proofs.lemmas.Bool.Decides.{eqb_tells}
 use Rattle.std.proofs.lemmas.List.{length-map, length-append}
 use Rattle.std.proofs.lemmas.Slice.Eq.{bytes_eq-Decides}
-use Rattle.roster_model.specs.Folds.{In, Each, sum_n}
-use Rattle.roster_model.specs.Grammar.{IsInWindow}
-use Rattle.roster_model.proofs.EachLemmas.{Each-at}
+use Rattle.model_rosters.specs.Folds.{In, Each, sum_n}
+use Rattle.model_rosters.specs.Grammar.{IsInWindow}
+use Rattle.model_rosters.proofs.EachLemmas.{Each-at}
 use Rattle.plan_meaning.specs.declared.plan.Duty.{Duty}
 use Rattle.plan_meaning.specs.declared.plan.Extra.{Extra}
 use Rattle.plan_meaning.specs.declared.plan.Lengths.{Lengths}

@@ -1,8 +1,8 @@
 -- Parts that mean make a whole that means, at no more: one lemma for each rule of each name.
 use Rattle.std.proofs.Common.{◌≡◌, ◌≢◌, ◌⊎◌, Bool, true, false, not, nat_le, nat_eq, IsTrue, ℕ, zero, suc, ◌<◌, ◌≤◌, ◌+◌, ◌-◌, ◌*◌, Option, None, Some, List, [], ◌∷◌, ◌++◌, length, map, arith, refl, subst, sym, ap, ◌∙◌, length-append, append-nil, inl, inr, mul-le-mul_right}
 use Rattle.std.proofs.lemmas.Bool.{eqb-true}
-use Rattle.roster_model.specs.declared.grammar.Window.{Window}
-use Rattle.roster_model.specs.Folds.{In, Each}
+use Rattle.model_rosters.specs.declared.grammar.Window.{Window}
+use Rattle.model_rosters.specs.Folds.{In, Each}
 use Rattle.plan_laws.specs.Named.{Symbol, coded, named, NamedRule, SideBySide, EachSymbol, RuleKept}
 use Rattle.plan_laws.specs.declared.period_plan.Activity.{Activity}
 use Rattle.plan_laws.specs.declared.period_plan.PeriodDuty.{PeriodDuty}
@@ -18,7 +18,7 @@ use Rattle.plan_laws.proofs.Trees.{each_in}
 use Rattle.plan_laws.proofs.Sides.{map_each, all_each, one_part, Two, two_parts}
 use Rattle.plan_laws.proofs.Words.{carried_word, in_numbers, word_cost-append, word_cost-one, word_cost-none, Alone-append, in_others, in_chosen, each_side}
 use Rattle.plan_laws.proofs.Merge.{merge}
-use Rattle.roster_model.specs.Grammar.{IsInWindow}
+use Rattle.model_rosters.specs.Grammar.{IsInWindow}
 
 -- the rule keeps the meaning of this name
 abbrev Keeps : PeriodPlan → Free → Kind → NamedRule Kind → Type 0

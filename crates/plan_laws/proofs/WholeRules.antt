@@ -1,9 +1,9 @@
 -- A grammar that is written for the numbers of periods of a plan says what the plan means.
 use Rattle.std.proofs.Common.{◌≡◌, ◌≢◌, ◌⊎◌, inl, inr, ℕ, ◌≤◌, ◌/◌, Bool, true, false, not, IsTrue, Option, None, Some, List, [], ◌∷◌, map, arith, sym, ap, ◌∙◌, subst}
 use Rattle.std.proofs.lemmas.List.{length-map}
-use Rattle.roster_model.specs.declared.grammar.Grammar.{Grammar}
-use Rattle.roster_model.specs.Folds.{In, Each}
-use Rattle.roster_model.proofs.EachLemmas.{Each-at, Each-in}
+use Rattle.model_rosters.specs.declared.grammar.Grammar.{Grammar}
+use Rattle.model_rosters.specs.Folds.{In, Each}
+use Rattle.model_rosters.proofs.EachLemmas.{Each-at, Each-in}
 use Rattle.plan_meaning.specs.declared.plan.Duty.{Duty}
 use Rattle.plan_meaning.specs.declared.plan.Lengths.{Lengths}
 use Rattle.plan_meaning.specs.declared.plan.Part.{Part}

@@ -1,12 +1,12 @@
 -- The law between a plan and a grammar that is written for it.
 use Rattle.std.specs.Prelude.{ℕ, ◌≡◌, ◌≤◌, ◌+◌, ◌↔◌, List, [], ◌∷◌, ◌++◌, length}
-use Rattle.roster_model.specs.declared.grammar.Grammar.{Grammar}
-use Rattle.roster_model.specs.declared.grammar.Window.{Window}
-use Rattle.roster_model.specs.declared.grammar.Sym.TheVariants.{Name}
-use Rattle.roster_model.specs.Folds.{Each, In}
-use Rattle.roster_model.specs.Trees.{Parts, On, word}
-use Rattle.roster_model.specs.Shifts.{IsShift, IsPrice}
-use Rattle.roster_model.specs.Arcs.{cost}
+use Rattle.model_rosters.specs.declared.grammar.Grammar.{Grammar}
+use Rattle.model_rosters.specs.declared.grammar.Window.{Window}
+use Rattle.model_rosters.specs.declared.grammar.Sym.TheVariants.{Name}
+use Rattle.model_rosters.specs.Folds.{Each, In}
+use Rattle.model_rosters.specs.Trees.{Parts, On, word}
+use Rattle.model_rosters.specs.Shifts.{IsShift, IsPrice}
+use Rattle.model_rosters.specs.Arcs.{cost}
 use Rattle.plan_laws.specs.Named.{Numbers, Written}
 use Rattle.plan_laws.specs.declared.period_plan.Activity.{Activity}
 use Rattle.plan_laws.specs.declared.period_plan.PeriodDuty.{PeriodDuty}

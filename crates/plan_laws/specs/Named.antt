@@ -1,14 +1,14 @@
 -- Grammars whose names are data: their rules, what their symbols mean side by side, and how they are
 -- written with names that are numbers.
 use Rattle.std.specs.Prelude.{ℕ, ◌≡◌, ◌<◌, ◌≤◌, ◌+◌, ◌-◌, ◌↔◌, List, [], ◌∷◌, ◌++◌, length, map}
-use Rattle.roster_model.specs.declared.grammar.Grammar.{Grammar}
-use Rattle.roster_model.specs.declared.grammar.Rule.{Rule}
-use Rattle.roster_model.specs.declared.grammar.Sym.{Sym}
-use Rattle.roster_model.specs.declared.grammar.Sym.TheVariants.{Code, Name}
-use Rattle.roster_model.specs.declared.grammar.Window.{Window}
-use Rattle.roster_model.specs.Folds.{In, Each}
-use Rattle.roster_model.specs.Grammar.{IsInWindow}
-use Rattle.roster_model.specs.Trees.{byte_of}
+use Rattle.model_rosters.specs.declared.grammar.Grammar.{Grammar}
+use Rattle.model_rosters.specs.declared.grammar.Rule.{Rule}
+use Rattle.model_rosters.specs.declared.grammar.Sym.{Sym}
+use Rattle.model_rosters.specs.declared.grammar.Sym.TheVariants.{Code, Name}
+use Rattle.model_rosters.specs.declared.grammar.Window.{Window}
+use Rattle.model_rosters.specs.Folds.{In, Each}
+use Rattle.model_rosters.specs.Grammar.{IsInWindow}
+use Rattle.model_rosters.specs.Trees.{byte_of}
 
 -- a symbol of a right side: a code's letter, or a name
 pub data Symbol (K : Type 0) : Type 0 where

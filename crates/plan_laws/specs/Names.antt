@@ -1,7 +1,7 @@
 -- The names of the grammar that is written for a plan, their rules, and what each of them means.
 use Rattle.std.specs.Prelude.{ℕ, zero, suc, ◌≡◌, ◌≢◌, ◌≤◌, ◌+◌, ◌-◌, ◌*◌, ◌⊎◌, Bool, not, IsTrue, cond, ◌&&◌, ◌||◌, true, false, nat_eq, nat_le, Option, None, Some, List, [], ◌∷◌, ◌++◌, length, map}
-use Rattle.roster_model.specs.declared.grammar.Window.{Window}
-use Rattle.roster_model.specs.Folds.{Each, In}
+use Rattle.model_rosters.specs.declared.grammar.Window.{Window}
+use Rattle.model_rosters.specs.Folds.{Each, In}
 use Rattle.plan_laws.specs.Named.{Symbol, coded, named, NamedRule}
 use Rattle.plan_laws.specs.Spells.{Spell, spells}
 use Rattle.plan_laws.specs.declared.period_plan.Activity.{Activity}

@@ -1,8 +1,8 @@
 -- What a plan in numbers of periods means: blocks, stretches, rests, shifts and their prices, on words alone.
 use Rattle.std.specs.Prelude.{ℕ, ◌≡◌, ◌≢◌, ◌⊎◌, ◌≤◌, ◌+◌, ◌-◌, ◌*◌, Bool, not, cond, ◌&&◌, ◌||◌, nat_eq, nat_le, Option, None, Some, List, [], ◌∷◌, ◌++◌, length}
-use Rattle.roster_model.specs.declared.grammar.Window.{Window}
-use Rattle.roster_model.specs.Folds.{sum_n, Each, In}
-use Rattle.roster_model.specs.Grammar.{IsInWindow}
+use Rattle.model_rosters.specs.declared.grammar.Window.{Window}
+use Rattle.model_rosters.specs.Folds.{sum_n, Each, In}
+use Rattle.model_rosters.specs.Grammar.{IsInWindow}
 use Rattle.plan_laws.specs.declared.period_plan.Activity.{Activity}
 use Rattle.plan_laws.specs.declared.period_plan.PeriodDuty.{PeriodDuty}
 use Rattle.plan_laws.specs.declared.period_plan.PeriodExtra.{PeriodExtra}

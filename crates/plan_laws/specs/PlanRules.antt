@@ -1,8 +1,8 @@
 -- The law between a plan, as it is written, and the grammar that is written for it.
 use Rattle.std.specs.Prelude.{ℕ, ◌≤◌, ◌↔◌, IsTrue, Option, None, List, length}
-use Rattle.roster_model.specs.declared.grammar.Grammar.{Grammar}
-use Rattle.roster_model.specs.Folds.{Each, In}
-use Rattle.roster_model.specs.Shifts.{IsPrice, IsShift}
+use Rattle.model_rosters.specs.declared.grammar.Grammar.{Grammar}
+use Rattle.model_rosters.specs.Folds.{Each, In}
+use Rattle.model_rosters.specs.Shifts.{IsPrice, IsShift}
 use Rattle.plan_meaning.specs.declared.plan.Duty.{Duty}
 use Rattle.plan_meaning.specs.declared.plan.Lengths.{Lengths}
 use Rattle.plan_meaning.specs.declared.plan.Part.{Part}

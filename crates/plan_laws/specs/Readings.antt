@@ -1,8 +1,8 @@
 -- How a shift's word is read by a duty line: time off, the blocks of each part, and time off; in one way
 -- only.
 use Rattle.std.specs.Prelude.{ℕ, ◌≡◌, ◌≢◌, ◌≤◌, ◌+◌, not, IsTrue, List, [], ◌∷◌, length}
-use Rattle.roster_model.specs.declared.grammar.Window.{Window}
-use Rattle.roster_model.specs.Folds.{Each, In}
+use Rattle.model_rosters.specs.declared.grammar.Window.{Window}
+use Rattle.model_rosters.specs.Folds.{Each, In}
 use Rattle.plan_laws.specs.declared.period_plan.Activity.{Activity}
 use Rattle.plan_laws.specs.declared.period_plan.PeriodDuty.{PeriodDuty}
 use Rattle.plan_laws.specs.declared.period_plan.PeriodPart.{PeriodPart}

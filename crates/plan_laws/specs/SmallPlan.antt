@@ -1,9 +1,9 @@
 -- A plan of three periods with a line that has a plus and one that has none, and a grammar that is written
 -- for it.
 use Rattle.std.specs.Prelude.{ℕ, zero, suc, cond, nat_eq, true, false, Some, List, [], ◌∷◌}
-use Rattle.roster_model.specs.declared.grammar.Grammar.{Grammar}
-use Rattle.roster_model.specs.declared.grammar.Window.{Window}
-use Rattle.roster_model.specs.Folds.{Each}
+use Rattle.model_rosters.specs.declared.grammar.Grammar.{Grammar}
+use Rattle.model_rosters.specs.declared.grammar.Window.{Window}
+use Rattle.model_rosters.specs.Folds.{Each}
 use Rattle.plan_laws.specs.declared.period_plan.Activity.{Activity}
 use Rattle.plan_laws.specs.declared.period_plan.PeriodDuty.{PeriodDuty}
 use Rattle.plan_laws.specs.declared.period_plan.PeriodPart.TheVariants.{Pausing, Working}

@@ -1,6 +1,6 @@
 //! A plan in numbers of periods.
 
-use roster_model::{List, Window};
+use model_rosters::{List, Window};
 
 /// A code of work, or a pause.
 #[derive(Clone, Copy, Debug, PartialEq, Eq, Drop)]

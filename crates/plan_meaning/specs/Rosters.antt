@@ -1,8 +1,8 @@
 -- Which rosters are those of a plan and a forecast, and what they cost.
 use Rattle.std.specs.Prelude.{ℕ, zero, suc, ◌≡◌, ◌≤◌, ◌+◌, ◌-◌, ◌*◌, ◌/◌, Bool, false, true, cond, nat_eq, None, Option, Some, List, [], ◌∷◌, slice_index_or}
-use Rattle.roster_model.specs.Coverage.{has_at}
-use Rattle.roster_model.specs.Duties as duties
-use Rattle.roster_model.specs.Folds.{sum_n, count, Each, In}
+use Rattle.model_rosters.specs.Coverage.{has_at}
+use Rattle.model_rosters.specs.Duties as duties
+use Rattle.model_rosters.specs.Folds.{sum_n, count, Each, In}
 use Rattle.plan_meaning.specs.declared.forecast.Column.{Column}
 use Rattle.plan_meaning.specs.declared.forecast.Forecast.{Forecast}
 use Rattle.plan_meaning.specs.declared.plan.Need.{Need}

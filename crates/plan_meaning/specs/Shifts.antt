@@ -1,6 +1,6 @@
 -- Which words are shifts of a duty line, and at which price.
 use Rattle.std.specs.Prelude.{ℕ, ◌≡◌, ◌≢◌, ◌≤◌, ◌+◌, ◌*◌, Bool, not, cond, ◌&&◌, ◌||◌, nat_eq, nat_le, Option, None, Some, List, [], ◌∷◌, ◌++◌, length}
-use Rattle.roster_model.specs.Folds.{sum_n, Each, In}
+use Rattle.model_rosters.specs.Folds.{sum_n, Each, In}
 use Rattle.plan_meaning.specs.declared.plan.Duty.{Duty}
 use Rattle.plan_meaning.specs.declared.plan.Extra.{Extra}
 use Rattle.plan_meaning.specs.declared.plan.Lengths.{Lengths}

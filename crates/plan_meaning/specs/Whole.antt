@@ -1,6 +1,6 @@
 -- Plans in which all lengths and times are whole periods, and amounts of an hour come out even in a period.
 use Rattle.std.specs.Prelude.{ℕ, ◌≡◌, ◌≤◌, ◌<◌, ◌+◌, ◌*◌, Option, None, Some}
-use Rattle.roster_model.specs.Folds.{Each, In}
+use Rattle.model_rosters.specs.Folds.{Each, In}
 use Rattle.plan_meaning.specs.declared.plan.Duty.{Duty}
 use Rattle.plan_meaning.specs.declared.plan.Extra.{Extra}
 use Rattle.plan_meaning.specs.declared.plan.Lengths.{Lengths}

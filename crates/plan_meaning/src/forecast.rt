@@ -1,6 +1,6 @@
 //! What a forecast asks.
 
-use roster_model::List;
+use model_rosters::List;
 
 /// What a forecast asks of one code: a number for each step, in order.
 #[derive(Debug, PartialEq, Eq, Drop)]

@@ -6,8 +6,8 @@ ghost use Rattle.plan_meaning.specs.declared.plan.Time.{Time};
 ghost use Rattle.plan_meaning.specs.Times.{IsFirstTime};
 ghost use Rattle.plan_meaning.specs.WorkedPlans.{WorkedShop, WorkedTimes};
 
-/// States a law: a time without a next day's mark is the first one that the clock shows from the day's begin on, and
-/// as the end of something the first one behind the begin.
+/// States a law: a time without a next day's mark is the first one that the clock shows from the day's begin
+/// on, and as the end of something the first one behind the begin.
 pub fn times_are_first()
     ensures { (d : PlanDay) (t : Time) → t.next_day ≡ false → IsFirstTime d t }
 {}

@@ -1,6 +1,6 @@
 //! What a plan says.
 
-use roster_model::List;
+use model_rosters::List;
 
 /// A time as it is written.
 #[derive(Clone, Copy, Debug, PartialEq, Eq, Drop)]

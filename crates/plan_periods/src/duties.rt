@@ -15,9 +15,9 @@ ghost use Rattle.plan_laws.specs.Turned.{
 ghost use Rattle.plan_periods.specs.FitPlans.{AreFitBegins, IsFitCode, IsFitDuty, IsFitPart};
 
 use crate::numbers::{begins, ends, pause_begins, per_period, window_of};
+use model_rosters::{List, Memory};
 use plan_laws::{Activity, PeriodDuty, PeriodPart};
 use plan_meaning::{Duty, Lengths, Part, Plan, PlanCode, Times};
-use roster_model::{List, Memory};
 use std::alloc::Global;
 
 // Returns a code with its lengths as numbers of periods and what a period costs.

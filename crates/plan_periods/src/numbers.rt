@@ -23,8 +23,8 @@ ghost use Rattle.plan_periods.specs.FitPlans.{
 };
 
 use crate::times::{begin_behind, end_behind};
+use model_rosters::Window;
 use plan_meaning::{Lengths, Plan, Time, Times};
-use roster_model::Window;
 
 /// A window that is left open: all lengths, or all periods.
 const WHOLE: Window = Window { lo: 1, hi: 96 };

@@ -22,7 +22,8 @@ fn minutes_past(plan: &Plan, starts: u32, first: u8) -> u64
     (begin_minute(&plan.day) + behind) % u64::from(starts)
 }
 
-// Returns how many periods are before the first one that begins at a multiple of so many minutes by the clock.
+// Returns how many periods are before the first one that begins at a multiple of so many minutes by the
+// clock.
 fn first_multiple(plan: &Plan, starts: u32) -> u8
     requires some { 1 ≤ plan.now.day.minutes }
     requires few { turned_starts plan.now (Some starts) ≤ 96 }

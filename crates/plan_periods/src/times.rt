@@ -31,7 +31,8 @@ fn shown_behind(day: &PlanDay, minute: u32) -> u64
     (u64::from(minute) + (CLOCK_DAY - begin_minute(day))) % CLOCK_DAY
 }
 
-// Returns behind how many minutes the clock shows the minute on the day after the one on which the day begins.
+// Returns behind how many minutes the clock shows the minute on the day after the one on which the day
+// begins.
 fn shown_next(day: &PlanDay, minute: u32) -> u64
     ensures { result ≡ shown_next day.now minute }
 {

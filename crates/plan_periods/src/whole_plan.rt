@@ -10,9 +10,9 @@ use crate::duties::period_activities;
 use crate::numbers::{between, count_of, per_period};
 use crate::starts::{first_start, starts_of};
 use crate::times::day_length;
+use model_rosters::{List, Memory};
 use plan_laws::{PeriodExtra, PeriodPlan};
 use plan_meaning::{Extra, Plan};
-use roster_model::{List, Memory};
 use std::alloc::Global;
 
 /// The letter of time off.

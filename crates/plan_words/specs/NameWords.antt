@@ -1,7 +1,7 @@
 -- Codes and names.
 use Rattle.std.specs.Prelude.{ℕ, Bool, ◌&&◌, ◌||◌, not, nat_le, nat_lt, List, [], ◌∷◌, Result, Ok, Err, length, slice_index, if◌then◌else◌}
 use Rattle.std.specs.List.{list_all}
-use Rattle.roster_model.specs.Names.{is_letter, is_window_word}
+use Rattle.model_rosters.specs.Names.{is_letter, is_window_word}
 use Rattle.text_lines.specs.Numbers.{is_digit}
 use Rattle.plan_words.specs.declared.fault.WordFault.{WordFault}
 use Rattle.plan_words.specs.declared.fault.WordFault.TheVariants.{NoCode}

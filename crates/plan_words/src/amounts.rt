@@ -238,8 +238,8 @@ fn hour_of(decimals: u8, minutes: u32, units: u64) -> Result<u32, WordFault>
 ///
 /// # Errors
 ///
-/// Those of [`amount`], then `Uneven` where they do not come out even, and `PeriodUnits` where a period costs more
-/// than 10,000.
+/// Those of [`amount`], then `Uneven` where they do not come out even, and `PeriodUnits` where a period costs
+/// more than 10,000.
 #[tactic(auto, unfolding(crate::specs::Amounts::hour_at))]
 pub fn hour(day: &Day, decimals: u8, word: &[u8]) -> Result<u32, WordFault>
     ensures value { result ≡ hour_at day.now.minutes decimals word.now }

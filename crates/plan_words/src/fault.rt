@@ -1,6 +1,7 @@
 //! Why a word says nothing.
 
-/// Why a word cannot stand where it stands: what is said of it behind the word itself. Times and lengths are minutes.
+/// Why a word cannot stand where it stands: what is said of it behind the word itself. Times and lengths are
+/// minutes.
 #[derive(Clone, Copy, Debug, PartialEq, Eq, Drop)]
 pub enum WordFault {
     /// It is no code.

@@ -2,7 +2,7 @@
 
 ghost use Rattle.std.specs.Prelude.{◌≡◌, ◌≤◌, ◌<◌, length, slice_index};
 ghost use Rattle.std.specs.List.{list_all};
-ghost use Rattle.roster_model.specs.Names.{is_letter, is_window_word};
+ghost use Rattle.model_rosters.specs.Names.{is_letter, is_window_word};
 ghost use Rattle.plan_words.specs.NameWords.{code_at, is_alphanumeric, is_plan_name};
 
 use crate::digits::is_digit;
@@ -33,7 +33,7 @@ fn are_alphanumeric(word: &[u8]) -> bool
 }
 
 // Whether a word begins a window of a rule.
-#[tactic(auto, unfolding(roster_model::specs::Names::is_window_word))]
+#[tactic(auto, unfolding(model_rosters::specs::Names::is_window_word))]
 fn is_window_word(word: &[u8]) -> bool
     ensures { result ≡ is_window_word word.now }
 {
@@ -55,8 +55,8 @@ pub fn code(word: &[u8]) -> Result<u8, WordFault>
     }
 }
 
-/// Returns whether a word is a duty's name: a letter and up to 23 letters and digits, and no word of the windows of a
-/// rule.
+/// Returns whether a word is a duty's name: a letter and up to 23 letters and digits, and no word of the
+/// windows of a rule.
 #[tactic(auto, unfolding(crate::specs::NameWords::is_plan_name))]
 pub fn is_plan_name(word: &[u8]) -> bool
     ensures { result ≡ is_plan_name word.now }

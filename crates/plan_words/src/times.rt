@@ -115,7 +115,8 @@ fn no_begin(day: &Day) -> WordFault
 ///
 /// # Errors
 ///
-/// `NoTime` where the word is none; then `OutsideDay` where the day is over, and `NoBegin` where no period begins then.
+/// `NoTime` where the word is none; then `OutsideDay` where the day is over, and `NoBegin` where no period
+/// begins then.
 #[tactic(auto, unfolding(crate::specs::TimeWords::begin_at))]
 pub fn begin(day: &Day, word: &[u8]) -> Result<Time, WordFault>
     ensures value { result ≡ begin_at day.now word.now }
@@ -138,7 +139,8 @@ pub fn begin(day: &Day, word: &[u8]) -> Result<Time, WordFault>
 ///
 /// # Errors
 ///
-/// `NoTime` where the word is none; then `OutsideDay` where the day is over, and `NoBegin` where no period ends then.
+/// `NoTime` where the word is none; then `OutsideDay` where the day is over, and `NoBegin` where no period
+/// ends then.
 #[tactic(auto, unfolding(crate::specs::TimeWords::end_at))]
 pub fn end(day: &Day, word: &[u8]) -> Result<Time, WordFault>
     ensures value { result ≡ end_at day.now word.now }

@@ -1,9 +1,9 @@
 //! The program: answers for rosters by the words of its command line.
 #![tactic(auto)]
 
-use branch_price::{ClockWatch, PlainMaster};
 use command_line::run;
-use shelf::DiskShelf;
+use command_shelf::DiskShelf;
+use search_branch_price::{ClockWatch, PlainMaster};
 use std::env;
 use std::io::ErrorKind;
 use std::process::ExitCode;

@@ -1,8 +1,8 @@
 //! The program: the page of a certificate that it has checked itself.
 #![tactic(auto)]
 
+use command_shelf::DiskShelf;
 use page_command::run;
-use shelf::DiskShelf;
 use std::env;
 use std::io::ErrorKind;
 use std::process::ExitCode;

@@ -1,15 +1,15 @@
--- What a hunt and a solution keep.
+-- What a column generation and a solution keep.
 use Rattle.std.specs.Prelude.{◌≡◌, List, [], ◌++◌, length}
 use mathlib.Core.Path.{sym, ap, subst, ◌∙◌}
 use mathlib.Core.List.{append_assoc, append-nil}
-use Rattle.cheapest_tree.specs.Pricers.{PricerView}
+use Rattle.tree_cheapest.specs.Pricers.{PricerView}
 use Rattle.tree_pool.specs.Pools.{PoolTree, IsGrown}
-use Rattle.master_rows.specs.declared.search_day.day.Day.{Day}
-use Rattle.master_rows.specs.declared.node_task.task.NodeTask.{NodeTask}
-use Rattle.node_columns.specs.declared.desk.ColumnDesk.{ColumnDesk}
-use Rattle.node_columns.specs.Columns.{IsDesk}
-use Rattle.search_columns.specs.declared.hunt.Hunt.{Hunt}
-use Rattle.search_columns.specs.Hunts.{IsHunt, IsHunting, StayHunting}
+use Rattle.lp_master_rows.specs.declared.search_day.day.Day.{Day}
+use Rattle.lp_master_rows.specs.declared.node_task.task.NodeTask.{NodeTask}
+use Rattle.search_node_columns.specs.declared.workspace.ColumnWorkspace.{ColumnWorkspace}
+use Rattle.search_node_columns.specs.Columns.{IsWorkspace}
+use Rattle.search_columns.specs.declared.generation.Generation.{Generation}
+use Rattle.search_columns.specs.Generations.{IsGeneration, IsGenerating, StayGenerating}
 use Rattle.search_columns.specs.Tools.{AreTools, StayTools}
 
 -- a pool has grown by nothing
@@ -28,25 +28,25 @@ stay_same d a p h = record { are = h; grown = grown_same a }
 pub stay_chain : (d : Day) (a b c : List PoolTree) (p q : PricerView) → StayTools d p a b → StayTools d q b c → StayTools d q a c
 stay_chain d a b c p q h k = record { are = k.are; grown = grown_chain a b c h.grown k.grown }
 
--- a hunt whose desk stays, and that has as many prices
-hunt_moved : (t : NodeTask) (a : List PoolTree) (h n : Hunt) → length n.asked.y.items ≡ length h.asked.y.items → n.desk ≡ h.desk → IsHunt t a h → IsHunt t a n
-hunt_moved t a h n e d is = record { y = e ∙ is.y; desk = subst (λ (k : ColumnDesk). IsDesk t.day.instance.now t.cuts.now a k) (sym d) is.desk }
+-- a column generation whose workspace stays, and that has as many prices
+generation_moved : (t : NodeTask) (a : List PoolTree) (h n : Generation) → length n.asked.y.items ≡ length h.asked.y.items → n.workspace ≡ h.workspace → IsGeneration t a h → IsGeneration t a n
+generation_moved t a h n e d is = record { y = e ∙ is.y; workspace = subst (λ (k : ColumnWorkspace). IsWorkspace t.day.instance.now t.cuts.now a k) (sym d) is.workspace }
 
-pub hunting_moved : (t : NodeTask) (a : List PoolTree) (p : PricerView) (h n : Hunt) → length n.asked.y.items ≡ length h.asked.y.items → n.desk ≡ h.desk → IsHunting t p a h → IsHunting t p a n
-hunting_moved t a p h n e d is = record { may = is.may; hunt = hunt_moved t a h n e d is.hunt }
+pub generating_moved : (t : NodeTask) (a : List PoolTree) (p : PricerView) (h n : Generation) → length n.asked.y.items ≡ length h.asked.y.items → n.workspace ≡ h.workspace → IsGenerating t p a h → IsGenerating t p a n
+generating_moved t a p h n e d is = record { may = is.may; generation = generation_moved t a h n e d is.generation }
 
--- a hunt that lent nothing
-pub hunting_same : (t : NodeTask) (a : List PoolTree) (p : PricerView) (h n : Hunt) → length n.asked.y.items ≡ length h.asked.y.items → n.desk ≡ h.desk → IsHunting t p a h
-    → StayHunting t p a a n
-hunting_same t a p h n e d is = record { are = hunting_moved t a p h n e d is; grown = grown_same a }
+-- a column generation that lent nothing
+pub generating_same : (t : NodeTask) (a : List PoolTree) (p : PricerView) (h n : Generation) → length n.asked.y.items ≡ length h.asked.y.items → n.workspace ≡ h.workspace → IsGenerating t p a h
+    → StayGenerating t p a a n
+generating_same t a p h n e d is = record { are = generating_moved t a p h n e d is; grown = grown_same a }
 
--- a hunt that lent its tools twice
-pub hunting_chain : (t : NodeTask) (a b c : List PoolTree) (p q : PricerView) (h k n : Hunt) → length n.asked.y.items ≡ length k.asked.y.items → n.desk ≡ k.desk
-    → StayHunting t p a b h → StayHunting t q b c k → StayHunting t q a c n
-hunting_chain t a b c p q h k n e d one two =
-    record { are = hunting_moved t c q k n e d two.are; grown = grown_chain a b c one.grown two.grown }
+-- a column generation that lent its tools twice
+pub generating_chain : (t : NodeTask) (a b c : List PoolTree) (p q : PricerView) (h k n : Generation) → length n.asked.y.items ≡ length k.asked.y.items → n.workspace ≡ k.workspace
+    → StayGenerating t p a b h → StayGenerating t q b c k → StayGenerating t q a c n
+generating_chain t a b c p q h k n e d one two =
+    record { are = generating_moved t c q k n e d two.are; grown = grown_chain a b c one.grown two.grown }
 
--- a hunt that lent its tools, and whose desk stays then
-pub hunting_after : (t : NodeTask) (a b : List PoolTree) (p : PricerView) (h n : Hunt) → length n.asked.y.items ≡ length h.asked.y.items → n.desk ≡ h.desk
-    → StayHunting t p a b h → StayHunting t p a b n
-hunting_after t a b p h n e d one = record { are = hunting_moved t b p h n e d one.are; grown = one.grown }
+-- a column generation that lent its tools, and whose workspace stays then
+pub generating_after : (t : NodeTask) (a b : List PoolTree) (p : PricerView) (h n : Generation) → length n.asked.y.items ≡ length h.asked.y.items → n.workspace ≡ h.workspace
+    → StayGenerating t p a b h → StayGenerating t p a b n
+generating_after t a b p h n e d one = record { are = generating_moved t b p h n e d one.are; grown = one.grown }

@@ -1,10 +1,10 @@
--- What is lent to the hunts of a day's nodes.
+-- What is lent to the generations of a day's nodes.
 use Rattle.std.specs.Prelude.{List}
-use Rattle.cheapest_tree.specs.Pricers.{PricerView, IsMadeFor}
+use Rattle.tree_cheapest.specs.Pricers.{PricerView, IsMadeFor}
 use Rattle.tree_pool.specs.Pools.{PoolTree, IsPool, IsGrown}
-use Rattle.master_rows.specs.declared.search_day.day.Day.{Day}
-use Rattle.master_rows.specs.declared.node_task.task.NodeTask.{NodeTask}
-use Rattle.master_rows.specs.node_task.Tasks.{IsTask}
+use Rattle.lp_master_rows.specs.declared.search_day.day.Day.{Day}
+use Rattle.lp_master_rows.specs.declared.node_task.task.NodeTask.{NodeTask}
+use Rattle.lp_master_rows.specs.node_task.Tasks.{IsTask}
 
 -- the pricer is the graph's, and the pool has trees of the day
 pub record AreTools (d : Day) (p : PricerView) (ts : List PoolTree) : Type 0 where
@@ -16,7 +16,7 @@ pub record StayTools (d : Day) (p : PricerView) (old new : List PoolTree) : Type
   pub are : AreTools d p new
   pub grown : IsGrown old new
 
--- a hunt may use the pricer and the pool
-pub record MayHunt (t : NodeTask) (p : PricerView) (ts : List PoolTree) : Type 0 where
+-- a column generation may use the pricer and the pool
+pub record MayGenerate (t : NodeTask) (p : PricerView) (ts : List PoolTree) : Type 0 where
   pub task : IsTask t
   pub tools : AreTools t.day p ts

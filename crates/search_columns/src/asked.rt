@@ -1,15 +1,15 @@
-//! The prices that a hunt asks at.
+//! The prices that a column generation asks at.
 
 ghost use Rattle.std.specs.Prelude.{◌≡◌, length, IfOk};
 
-use master_rows::reduced_at;
-use node_columns::Held;
-use node_columns::volume::whole_bound;
-use roster_model::Memory;
-use scout::Q24;
+use lp_float_programs::Q24;
+use lp_master_rows::reduced_at;
+use model_rosters::Memory;
+use search_node_columns::Held;
+use search_node_columns::volume::whole_bound;
 use std::alloc::Global;
 
-/// The unit of a scout's prices, one in 2^24.
+/// The unit of a float program's prices, one in 2^24.
 pub(crate) const KAPPA: i128 = 16_777_216;
 
 /// A reduced cost above this, -2^-11, is taken for none.
@@ -18,7 +18,7 @@ const CHEAPER: i128 = -8_192;
 /// What weights add up to.
 const WHOLE: i128 = 16;
 
-/// How many units of a scout's value make one of a bound.
+/// How many units of a float program's value make one of a bound.
 pub(crate) const VALUE_UNITS: i128 = 256;
 
 /// How near a value is to a bound in boxes where nothing else is said, 2^-18 in units of 2^-32.
@@ -33,8 +33,8 @@ pub(crate) struct Asked {
     best: Vec<i128>,
     /// That bound.
     bound: Option<i128>,
-    /// A value within so much of the bound ends the hunt, in units of 2^-32; none where nothing short of no
-    /// cheap tree does.
+    /// A value within so much of the bound ends the column generation, in units of 2^-32; none where nothing
+    /// short of no cheap tree does.
     near: Option<i128>,
     /// Whether it ended so, or with the best prices for want of better ones.
     is_early: bool,
@@ -94,14 +94,15 @@ impl Asked {
         self.bound = bound;
     }
 
-    /// Lets the hunt end where the value is within so much of the bound.
+    /// Lets the column generation end where the value is within so much of the bound.
     pub(crate) fn end_within(&mut self, near: i128)
         ensures { length self.new.y.items ≡ length self.old.y.items }
     {
         self.near = Some(near);
     }
 
-    /// Says whether the hunt ends at a value, in units of 2^-32, since it is near enough to the bound.
+    /// Says whether the column generation ends at a value, in units of 2^-32, since it is near enough to the
+    /// bound.
     pub(crate) fn ends_at(&mut self, value: i128) -> bool
         ensures { length self.new.y.items ≡ length self.old.y.items }
     {
@@ -128,8 +129,8 @@ impl Asked {
         self.near.unwrap_or(NEAR) / VALUE_UNITS
     }
 
-    /// Lets the hunt hand on the best prices, if any are known, though the value is not near to what they
-    /// show.
+    /// Lets the column generation hand on the best prices, if any are known, though the value is not near to
+    /// what they show.
     pub(crate) fn take_best(&mut self)
         ensures { length self.new.y.items ≡ length self.old.y.items }
     {
@@ -142,8 +143,8 @@ impl Asked {
         whole_bound(self.bound?)
     }
 
-    /// Returns the best prices, where the hunt ended since the value was near to what they show, or hands
-    /// them on for want of better ones.
+    /// Returns the best prices, where the column generation ended since the value was near to what they show,
+    /// or hands them on for want of better ones.
     pub(crate) fn early_prices(&self) -> Option<&[i128]> {
         if self.is_early {
             Some(self.best.as_slice())
@@ -152,7 +153,7 @@ impl Asked {
         }
     }
 
-    /// Asks at a scout's prices, of which so many sixteenths are in place of those of the best ones.
+    /// Asks at a float program's prices, of which so many sixteenths are in place of those of the best ones.
     pub(crate) fn mix(&mut self, prices: &[Q24], weight: i128)
         ensures { length self.new.y.items ≡ length self.old.y.items }
     {

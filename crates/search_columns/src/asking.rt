@@ -1,38 +1,39 @@
-//! How a hunt lists trees at the prices that it asks at.
+//! How a column generation lists trees at the prices that it asks at.
 
 ghost use Rattle.std.specs.Prelude.{◌≡◌, length};
-ghost use Rattle.master_rows.specs.node_task.Tasks.{IsTask, row_count};
-ghost use Rattle.node_columns.specs.Tools.{AreTools, StayTools};
-ghost use Rattle.search_columns.specs.Hunts.{IsHunting, StayHunting};
+ghost use Rattle.lp_master_rows.specs.node_task.Tasks.{IsTask, row_count};
+ghost use Rattle.search_node_columns.specs.Tools.{AreTools, StayTools};
+ghost use Rattle.search_columns.specs.Generations.{IsGenerating, StayGenerating};
 
 use crate::asked::KAPPA;
-use crate::hunt::Hunt;
-use cheapest_tree::Pricer;
-use master_rows::NodeTask;
-use node_columns::{ColumnDesk, first_wide, list_cheapest, list_several};
-use roster_model::Memory;
+use crate::generation::Generation;
+use lp_master_rows::NodeTask;
+use model_rosters::Memory;
+use search_node_columns::{ColumnWorkspace, first_wide, list_cheapest, list_several};
 use std::alloc::Global;
+use tree_cheapest::Pricer;
 use tree_pool::Pool;
 
-/// The weights of the best prices, in sixteenths, at which a round asks beside the scout's own.
+/// The weights of the best prices, in sixteenths, at which a round asks beside the float program's own.
 const WEIGHTS: [i128; 2] = [12, 9];
 
-/// Those at which a round of a careful hunt asks.
+/// Those at which a round of a careful column generation asks.
 const CAREFUL_WEIGHTS: [i128; 4] = [12, 9, 6, 3];
 
-/// How many trees a hunt lists at a scout's own prices, each with another arc at the top.
+/// How many trees a column generation lists at a float program's own prices, each with another arc at the
+/// top.
 const OWN: u32 = 5;
 
 /// How many it lists so at mixed prices.
 const MIXED: u32 = 1;
 
-/// How many a careful hunt lists at a scout's own prices.
+/// How many a careful column generation lists at a float program's own prices.
 const CAREFUL_OWN: u32 = 11;
 
 /// How many it lists at mixed prices.
 const CAREFUL_MIXED: u32 = 4;
 
-/// From so many trees on the pool is full: a hunt asks for no further ones.
+/// From so many trees on the pool is full: a column generation asks for no further ones.
 pub const FULL: usize = 20_000;
 
 /// Returns how many trees are listed at prices of which so many sixteenths are the best ones.
@@ -45,7 +46,7 @@ fn count_at(weight: i128, is_careful: bool) -> u32 {
     }
 }
 
-/// Returns the weights of the best prices at which a round asks beside the scout's own.
+/// Returns the weights of the best prices at which a round asks beside the float program's own.
 fn weights_of(is_careful: bool) -> &'static [i128] {
     if is_careful {
         &CAREFUL_WEIGHTS
@@ -63,20 +64,20 @@ fn ask(
     count: u32,
     pricer: &mut Pricer,
     pool: &mut Pool,
-    desk: &mut ColumnDesk,
+    workspace: &mut ColumnWorkspace,
 ) -> Result<Option<usize>, Memory>
     requires task { IsTask task.now }
     requires y { length y.now ≡ row_count task.now }
-    requires tools { AreTools task.now pricer.old pool.old desk.old }
-    ensures { StayTools task.now pricer.new pool.old pool.new desk.new }
+    requires tools { AreTools task.now pricer.old pool.old workspace.old }
+    ensures { StayTools task.now pricer.new pool.old pool.new workspace.new }
 {
     if pool.len() >= FULL || first_wide(y, KAPPA).is_some() {
         return Ok(None);
     }
     if count > 1 {
-        return list_several(alloc, task, y, KAPPA, count, pricer, pool, desk);
+        return list_several(alloc, task, y, KAPPA, count, pricer, pool, workspace);
     }
-    list_cheapest(alloc, task, y, KAPPA, pricer, pool, desk)
+    list_cheapest(alloc, task, y, KAPPA, pricer, pool, workspace)
 }
 
 /// Lists trees at mixed prices, as many as are listed there, and says whether the least one is cheap.
@@ -90,20 +91,31 @@ pub(crate) fn ask_mixed(
     weight: i128,
     pricer: &mut Pricer,
     pool: &mut Pool,
-    hunt: &mut Hunt,
+    generation: &mut Generation,
 ) -> Result<bool, Memory>
-    requires { IsHunting task.now pricer.old pool.old hunt.old }
-    ensures { StayHunting task.now pricer.new pool.old pool.new hunt.new }
+    requires { IsGenerating task.now pricer.old pool.old generation.old }
+    ensures { StayGenerating task.now pricer.new pool.old pool.new generation.new }
 {
-    hunt.asked.mix(hunt.scout.prices(), weight);
-    let y = hunt.asked.y.as_slice();
-    let count = count_at(weight, hunt.scout.is_careful());
-    let Some(column) = ask(alloc, task, y, count, pricer, pool, &mut hunt.desk)? else {
+    generation
+        .asked
+        .mix(generation.float_program.prices(), weight);
+    let y = generation.asked.y.as_slice();
+    let count = count_at(weight, generation.float_program.is_careful());
+    let Some(column) = ask(
+        alloc,
+        task,
+        y,
+        count,
+        pricer,
+        pool,
+        &mut generation.workspace,
+    )?
+    else {
         return Ok(false);
     };
     Ok(
-        hunt.asked.note(
-            hunt.desk.held.as_slice(),
+        generation.asked.note(
+            generation.workspace.held.as_slice(),
             column,
             task.rows.right(),
             task.day.instance.heads_max,
@@ -115,20 +127,20 @@ pub(crate) fn ask_mixed(
 ///
 /// # Errors
 ///
-/// `Memory` where memory runs out; the hunt may go on then, with the trees that were found.
+/// `Memory` where memory runs out; the column generation may go on then, with the trees that were found.
 pub(crate) fn ask_all(
     alloc: Global,
     task: &NodeTask,
     pricer: &mut Pricer,
     pool: &mut Pool,
-    hunt: &mut Hunt,
+    generation: &mut Generation,
 ) -> Result<(), Memory>
-    requires { IsHunting task.now pricer.old pool.old hunt.old }
-    ensures { StayHunting task.now pricer.new pool.old pool.new hunt.new }
+    requires { IsGenerating task.now pricer.old pool.old generation.old }
+    ensures { StayGenerating task.now pricer.new pool.old pool.new generation.new }
 {
-    let weights = weights_of(hunt.scout.is_careful());
+    let weights = weights_of(generation.float_program.is_careful());
     for weight in weights {
-        let _is_cheap = ask_mixed(alloc, task, *weight, pricer, pool, hunt)?;
+        let _is_cheap = ask_mixed(alloc, task, *weight, pricer, pool, generation)?;
     }
     Ok(())
 }

@@ -1,7 +1,7 @@
 //! The last bases of nodes.
 
-use roster_model::{Cut, List, Memory};
-use scout::{Key, LastBasis, Limits};
+use lp_float_programs::{Key, LastBasis, Limits};
+use model_rosters::{Cut, List, Memory};
 use std::alloc::Global;
 use std::mem;
 
@@ -9,13 +9,13 @@ use std::mem;
 /// price of every row, so that they take a few megabytes at most.
 const MOST_BASES: usize = 256;
 
-/// The steps of a round of a hunt that is not careful.
+/// The steps of a round of a column generation that is not careful.
 const STEPS: Limits = Limits {
     dual: 3_000,
     primal: 20_000,
 };
 
-/// The last basis of a node at a scout, and the prices there.
+/// The last basis of a node at a float program, and the prices there.
 #[derive(Drop)]
 pub(crate) struct Basis {
     /// The node's cuts.
@@ -26,7 +26,7 @@ pub(crate) struct Basis {
     pub(crate) own: List<Key>,
     /// The prices of the rows, in units of 2^-24.
     pub(crate) prices: List<i128>,
-    /// Whether the hunt was careful.
+    /// Whether the column generation was careful.
     pub(crate) is_careful: bool,
 }
 
@@ -38,18 +38,19 @@ struct Kept {
     turn: u64,
 }
 
-/// The last bases of some nodes at a scout, with which nodes below may begin. They are hints: whatever they
-/// are, what a master answers with them is right.
+/// The last bases of some nodes at a float program, with which nodes below may begin. They are hints:
+/// whatever they are, what a master answers with them is right.
 #[derive(Drop)]
 pub struct Bases {
     kept: Vec<Kept>,
     /// How often a basis was kept or chosen.
     turns: u64,
-    /// The steps of a round of the hunts that keep them.
+    /// The steps of a round of the generations that keep them.
     steps: Limits,
-    /// The basis of the last hunt; an empty one where none was made since it was taken.
+    /// The basis of the last column generation; an empty one where none was made since it was taken.
     last: LastBasis,
-    /// Prices of rows at which a hunt without a basis may begin, in units of 2^-24; none where none are known.
+    /// Prices of rows at which a column generation without a basis may begin, in units of 2^-24; none where
+    /// none are known.
     first: List<i128>,
 }
 
@@ -101,8 +102,8 @@ impl Bases {
         Bases::with_steps(alloc, STEPS)
     }
 
-    /// Returns no bases, for hunts whose rounds have so many steps while they are not careful: with few of
-    /// them a hunt is soon lost, and rescued.
+    /// Returns no bases, for column generations whose rounds have so many steps while they are not careful:
+    /// with few of them a column generation is soon lost, and rescued.
     pub fn with_steps(alloc: Global, steps: Limits) -> Bases {
         Bases {
             kept: Vec::new(alloc),
@@ -113,28 +114,28 @@ impl Bases {
         }
     }
 
-    /// Notes prices of the first rows at which a hunt without a basis may begin, in units of 2^-24. A row behind
-    /// these begins at the price 0.
+    /// Notes prices of the first rows at which a column generation without a basis may begin, in units of
+    /// 2^-24. A row behind these begins at the price 0.
     pub fn begin_at(&mut self, prices: List<i128>) {
         self.first = prices;
     }
 
-    /// Returns the prices at which a hunt without a basis may begin; none where none are known.
+    /// Returns the prices at which a column generation without a basis may begin; none where none are known.
     pub(crate) fn first_prices(&self) -> &[i128] {
         self.first.as_slice()
     }
 
-    /// Returns how many steps a round of a hunt has.
+    /// Returns how many steps a round of a column generation has.
     pub(crate) fn steps(&self) -> Limits {
         self.steps
     }
 
-    /// Notes the basis of the last hunt.
+    /// Notes the basis of the last column generation.
     pub(crate) fn set_last(&mut self, last: LastBasis) {
         self.last = last;
     }
 
-    /// Returns the basis with which the last hunt ended, and leaves an empty one.
+    /// Returns the basis with which the last column generation ended, and leaves an empty one.
     pub fn take_last(&mut self, alloc: Global) -> LastBasis {
         mem::replace(&mut self.last, LastBasis::new(alloc))
     }

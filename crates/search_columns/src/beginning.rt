@@ -1,33 +1,34 @@
-//! How a hunt begins.
+//! How a column generation begins.
 
 ghost use Rattle.std.specs.Prelude.{◌≡◌, length, IfOk};
 ghost use Rattle.tree_pool.specs.Pools.{IsPool};
-ghost use Rattle.master_rows.specs.node_task.Tasks.{IsTask, row_count};
-ghost use Rattle.search_columns.specs.Hunts.{IsHunt};
-ghost use Rattle.search_columns.specs.Tools.{MayHunt, StayTools};
+ghost use Rattle.lp_master_rows.specs.node_task.Tasks.{IsTask, row_count};
+ghost use Rattle.search_columns.specs.Generations.{IsGeneration};
+ghost use Rattle.search_columns.specs.Tools.{MayGenerate, StayTools};
 
 use crate::asked::Asked;
-use crate::hunt::{Ending, Hunt};
-use crate::scouting::{begin, scout_of};
+use crate::float_columns::{begin, float_program_of};
+use crate::generation::{Ending, Generation};
 use crate::starting::{Start, start_of};
 use crate::steering::Steering;
 use crate::warming::{MANY_ROWS, Warm, warm_up};
-use cheapest_tree::Pricer;
-use master_rows::{NodeRows, NodeTask};
-use node_columns::{ColumnDesk, desk_of};
-use roster_model::{Instance, Memory};
-use scout::Scout;
+use lp_float_programs::FloatProgram;
+use lp_master_rows::{NodeRows, NodeTask};
+use model_rosters::{Instance, Memory};
+use search_node_columns::{ColumnWorkspace, workspace_of};
 use search_watch::Watch;
 use std::alloc::Global;
+use tree_cheapest::Pricer;
 use tree_pool::Pool;
 
-/// By what the tolerances of a scout are multiplied where it is to take less for 0.
+/// By what the tolerances of a float program are multiplied where it is to take less for 0.
 const TIGHTER: f64 = 0.125;
 
 /// Half the rounding loss, of which one is 2^-20, in units of 2^-32.
 const HALF_LOSS: i128 = 2_048;
 
-/// Returns how near a value may come to what prices show before a hunt ends early, in units of 2^-32.
+/// Returns how near a value may come to what prices show before a column generation ends early, in units of
+/// 2^-32.
 fn near_value(instance: &Instance, cuts: usize) -> i128 {
     let cells = instance.cells.len();
     let terms = usize::from(instance.grammar.periods)
@@ -37,7 +38,7 @@ fn near_value(instance: &Instance, cuts: usize) -> i128 {
     loss.saturating_mul(HALF_LOSS)
 }
 
-/// Returns the prices that a hunt asks at first, and when it ends.
+/// Returns the prices that a column generation asks at first, and when it ends.
 fn asked_of(alloc: Global, task: &NodeTask, warm: &Warm, ending: Ending) -> Result<Asked, Memory>
     requires { IsTask task.now }
     ensures { IfOk result (λ a. length a.y.items ≡ row_count task.now) }
@@ -51,28 +52,28 @@ fn asked_of(alloc: Global, task: &NodeTask, warm: &Warm, ending: Ending) -> Resu
     Ok(asked)
 }
 
-/// Returns a scout of the columns at a desk, from a start.
-fn begun_scout<W: Watch>(
+/// Returns a float program of the columns at a workspace, from a start.
+fn begun_float_program<W: Watch>(
     alloc: Global,
-    desk: &ColumnDesk,
+    workspace: &ColumnWorkspace,
     rows: &NodeRows,
     start: &Start,
     ending: Ending,
     watch: &W,
-) -> Result<Scout, Memory> {
-    let mut scout = scout_of(alloc, desk.held.as_slice(), rows.right())?;
+) -> Result<FloatProgram, Memory> {
+    let mut float_program = float_program_of(alloc, workspace.held.as_slice(), rows.right())?;
     if ending == Ending::Tight {
-        scout.tighten(TIGHTER);
+        float_program.tighten(TIGHTER);
     }
     if start.is_careful {
-        scout.be_careful();
+        float_program.be_careful();
     }
-    begin(&mut scout, start.keys.as_slice(), watch);
-    Ok(scout)
+    begin(&mut float_program, start.keys.as_slice(), watch);
+    Ok(float_program)
 }
 
-/// Returns a hunt from a start, whose trees and further ones of the pool are listed.
-fn hunt_of<W: Watch>(
+/// Returns a column generation from a start, whose trees and further ones of the pool are listed.
+fn generation_of<W: Watch>(
     alloc: Global,
     task: &NodeTask,
     start: &Start,
@@ -80,19 +81,23 @@ fn hunt_of<W: Watch>(
     ending: Ending,
     pool: &Pool,
     watch: &W,
-) -> Result<Hunt, Memory>
+) -> Result<Generation, Memory>
     requires task { IsTask task.now }
     requires pool { IsPool task.now.day.instance.now.grammar pool.now }
-    ensures { IfOk result (IsHunt task.now pool.now) }
+    ensures { IfOk result (IsGeneration task.now pool.now) }
 {
-    let desk = desk_of(alloc, task, pool, warm.trees.as_slice())?;
+    let workspace = workspace_of(alloc, task, pool, warm.trees.as_slice())?;
     let asked = asked_of(alloc, task, warm, ending)?;
-    let scout = begun_scout(alloc, &desk, task.rows, start, ending, watch)?;
-    Ok(Hunt { asked, desk, scout })
+    let float_program = begun_float_program(alloc, &workspace, task.rows, start, ending, watch)?;
+    Ok(Generation {
+        asked,
+        workspace,
+        float_program,
+    })
 }
 
-/// Returns a hunt from a start, which is warmed first.
-fn warmed_hunt<W: Watch>(
+/// Returns a column generation from a start, which is warmed first.
+fn warmed_generation<W: Watch>(
     alloc: Global,
     task: &NodeTask,
     start: &Start,
@@ -100,22 +105,22 @@ fn warmed_hunt<W: Watch>(
     pricer: &mut Pricer,
     pool: &mut Pool,
     watch: &W,
-) -> Result<Hunt, Memory>
-    requires { MayHunt task.now pricer.old pool.old }
-    ensures hunt { IfOk result (IsHunt task.now pool.new) }
+) -> Result<Generation, Memory>
+    requires { MayGenerate task.now pricer.old pool.old }
+    ensures generation { IfOk result (IsGeneration task.now pool.new) }
     ensures tools { StayTools task.now.day pricer.new pool.old pool.new }
 {
     let warm = warm_up(alloc, task, start, pricer, pool, watch)?;
-    hunt_of(alloc, task, start, &warm, ending, pool, watch)
+    generation_of(alloc, task, start, &warm, ending, pool, watch)
 }
 
-/// Returns a hunt that has begun, from the last basis of the nearest node above that is kept.
+/// Returns a column generation that has begun, from the last basis of the nearest node above that is kept.
 ///
 /// # Errors
 ///
 /// `Memory` where memory runs out; the pricer is still one for the graph then, and the pool has its trees
 /// under their numbers, and perhaps further trees of the day.
-pub(crate) fn begun_hunt<W: Watch>(
+pub(crate) fn begun_generation<W: Watch>(
     alloc: Global,
     task: &NodeTask,
     ending: Ending,
@@ -123,11 +128,11 @@ pub(crate) fn begun_hunt<W: Watch>(
     pool: &mut Pool,
     steering: &mut Steering,
     watch: &W,
-) -> Result<Hunt, Memory>
-    requires { MayHunt task.now pricer.old pool.old }
-    ensures hunt { IfOk result (IsHunt task.now pool.new) }
+) -> Result<Generation, Memory>
+    requires { MayGenerate task.now pricer.old pool.old }
+    ensures generation { IfOk result (IsGeneration task.now pool.new) }
     ensures tools { StayTools task.now.day pricer.new pool.old pool.new }
 {
     let start = start_of(alloc, task, pool, steering)?;
-    warmed_hunt(alloc, task, &start, ending, pricer, pool, watch)
+    warmed_generation(alloc, task, &start, ending, pricer, pool, watch)
 }

@@ -1,10 +1,10 @@
 //! The prices that rows may have near to the best ones.
 
 use crate::asked::KAPPA;
-use crate::scouting::ARTIFICIAL;
-use node_columns::{Held, Kind};
-use roster_model::Memory;
-use scout::{Q24, Scout};
+use crate::float_columns::ARTIFICIAL;
+use lp_float_programs::{FloatProgram, Q24};
+use model_rosters::Memory;
+use search_node_columns::{Held, Kind};
 use std::alloc::Global;
 
 /// How far a price may be from the best one at first.
@@ -133,28 +133,28 @@ impl Boxes {
         Ok(Boxes { rows })
     }
 
-    /// Puts the boxes about the best prices: in the scout the own columns of a row cost what the sides of its
-    /// box are.
-    pub(crate) fn put_about(&mut self, best: &[i128], scout: &mut Scout) {
+    /// Puts the boxes about the best prices: in the float program the own columns of a row cost what the
+    /// sides of its box are.
+    pub(crate) fn put_about(&mut self, best: &[i128], float_program: &mut FloatProgram) {
         let rows = self.rows.as_mut_slice().iter_mut();
         for ((row, place), price) in rows.enumerate().zip(best) {
             if place.is_there {
                 place.put_about(*price);
-                scout.set_costs(row, place.high, Some(place.low.saturating_neg()));
+                float_program.set_costs(row, place.high, Some(place.low.saturating_neg()));
             }
         }
     }
 
-    /// Takes the boxes away: in the scout the own columns of a row cost what they cost.
-    pub(crate) fn lift(&self, scout: &mut Scout) {
+    /// Takes the boxes away: in the float program the own columns of a row cost what they cost.
+    pub(crate) fn lift(&self, float_program: &mut FloatProgram) {
         for (row, place) in self.rows.as_slice().iter().enumerate() {
             if place.is_there {
-                scout.set_costs(row, place.most, Some(place.least.saturating_neg()));
+                float_program.set_costs(row, place.most, Some(place.least.saturating_neg()));
             }
         }
     }
 
-    /// Says whether a box holds its price back at these prices of a scout.
+    /// Says whether a box holds its price back at these prices of a float program.
     pub(crate) fn hold_back(&self, prices: &[Q24]) -> bool {
         let rows = self.rows.as_slice().iter();
         for (place, price) in rows.zip(prices) {
@@ -165,7 +165,8 @@ impl Boxes {
         false
     }
 
-    /// Makes each box wider that holds its price back at these prices of a scout, from when it is moved on.
+    /// Makes each box wider that holds its price back at these prices of a float program, from when it is
+    /// moved on.
     pub(crate) fn widen(&mut self, prices: &[Q24]) {
         let rows = self.rows.as_mut_slice().iter_mut();
         for (place, price) in rows.zip(prices) {

@@ -1,20 +1,20 @@
 //! Rounds in boxes.
 
-ghost use Rattle.search_columns.specs.Hunts.{IsHunting, StayHunting};
+ghost use Rattle.search_columns.specs.Generations.{IsGenerating, StayGenerating};
 
 use crate::asked::{Asked, VALUE_UNITS};
 use crate::asking::{ask_all, ask_mixed};
 use crate::boxes::Boxes;
-use crate::hunt::Hunt;
+use crate::float_columns::list_trees;
+use crate::generation::Generation;
 use crate::rescuing::run_on;
-use crate::scouting::list_trees;
-use cheapest_tree::Pricer;
-use master_rows::{NodeRows, NodeTask};
-use node_columns::Held;
-use roster_model::Memory;
-use scout::{Scout, Scouted};
+use lp_float_programs::{FloatProgram, FloatSolved};
+use lp_master_rows::{NodeRows, NodeTask};
+use model_rosters::Memory;
+use search_node_columns::Held;
 use search_watch::Watch;
 use std::alloc::Global;
+use tree_cheapest::Pricer;
 use tree_pool::Pool;
 
 /// How many rounds are taken in boxes at most.
@@ -42,11 +42,11 @@ struct Boxing {
 /// What a round in boxes comes to.
 #[derive(Clone, Copy, Drop)]
 struct Round {
-    /// The value at the scout before trees were asked for, in units of 2^-24.
+    /// The value at the float program before trees were asked for, in units of 2^-24.
     value: i128,
     /// The bound of the best prices then, in the same units.
     bound: i128,
-    /// Whether a tree was cheap at the scout's prices.
+    /// Whether a tree was cheap at the float program's prices.
     is_cheap: bool,
 }
 
@@ -62,29 +62,29 @@ impl Round {
 impl Boxing {
     /// Says whether the boxes are to be lifted behind a round: value and bound are near to each other, twice
     /// in turn or where no box holds a price back.
-    fn is_done(&mut self, round: Round, near: i128, scout: &Scout) -> bool {
+    fn is_done(&mut self, round: Round, near: i128, float_program: &FloatProgram) -> bool {
         if round.value.saturating_sub(round.bound) > near {
             self.quiet = 0;
             return false;
         }
         self.quiet = self.quiet.saturating_add(1);
-        self.quiet >= QUIET || !self.boxes.hold_back(scout.prices())
+        self.quiet >= QUIET || !self.boxes.hold_back(float_program.prices())
     }
 
     /// Moves the boxes to the best prices, wider where they hold a price back.
-    fn move_to(&mut self, bound: i128, best: &[i128], scout: &mut Scout) {
-        self.boxes.widen(scout.prices());
-        self.boxes.put_about(best, scout);
+    fn move_to(&mut self, bound: i128, best: &[i128], float_program: &mut FloatProgram) {
+        self.boxes.widen(float_program.prices());
+        self.boxes.put_about(best, float_program);
         self.begun = bound;
     }
 
     /// Follows a round. Says whether another one is to be taken.
-    fn follow(&mut self, round: Round, asked: &Asked, scout: &mut Scout) -> bool {
-        if self.is_done(round, asked.near(), scout) {
+    fn follow(&mut self, round: Round, asked: &Asked, float_program: &mut FloatProgram) -> bool {
+        if self.is_done(round, asked.near(), float_program) {
             return false;
         }
         if round.moves_on(self.begun) {
-            self.move_to(round.bound, asked.best(), scout);
+            self.move_to(round.bound, asked.best(), float_program);
         }
         true
     }
@@ -97,11 +97,11 @@ fn begin(
     held: &[Held],
     best: &[i128],
     bound: i128,
-    scout: &mut Scout,
+    float_program: &mut FloatProgram,
 ) -> Result<Boxing, Memory> {
     let mut boxes = Boxes::new(alloc, held, rows.right().len(), rows.first_head())?;
-    boxes.put_about(best, scout);
-    let _started = scout.start_missing();
+    boxes.put_about(best, float_program);
+    let _started = float_program.start_missing();
     Ok(Boxing {
         boxes,
         begun: bound,
@@ -109,21 +109,26 @@ fn begin(
     })
 }
 
-/// Lists trees at the scout's prices and at mixed ones, and says whether one is cheap at the scout's own.
+/// Lists trees at the float program's prices and at mixed ones, and says whether one is cheap at the float
+/// program's own.
 fn ask_round(
     alloc: Global,
     task: &NodeTask,
     pricer: &mut Pricer,
     pool: &mut Pool,
-    hunt: &mut Hunt,
+    generation: &mut Generation,
 ) -> Result<bool, Memory>
-    requires { IsHunting task.now pricer.old pool.old hunt.old }
-    ensures { StayHunting task.now pricer.new pool.old pool.new hunt.new }
+    requires { IsGenerating task.now pricer.old pool.old generation.old }
+    ensures { StayGenerating task.now pricer.new pool.old pool.new generation.new }
 {
-    let first = hunt.desk.held.len();
-    let is_cheap = ask_mixed(alloc, task, 0, pricer, pool, hunt)?;
-    ask_all(alloc, task, pricer, pool, hunt)?;
-    list_trees(&mut hunt.scout, hunt.desk.held.as_slice(), first)?;
+    let first = generation.workspace.held.len();
+    let is_cheap = ask_mixed(alloc, task, 0, pricer, pool, generation)?;
+    ask_all(alloc, task, pricer, pool, generation)?;
+    list_trees(
+        &mut generation.float_program,
+        generation.workspace.held.as_slice(),
+        first,
+    )?;
     Ok(is_cheap)
 }
 
@@ -133,24 +138,24 @@ fn box_once<W: Watch>(
     task: &NodeTask,
     pricer: &mut Pricer,
     pool: &mut Pool,
-    hunt: &mut Hunt,
+    generation: &mut Generation,
     boxing: &mut Boxing,
     watch: &W,
 ) -> Result<bool, Memory>
-    requires { IsHunting task.now pricer.old pool.old hunt.old }
-    ensures { StayHunting task.now pricer.new pool.old pool.new hunt.new }
+    requires { IsGenerating task.now pricer.old pool.old generation.old }
+    ensures { StayGenerating task.now pricer.new pool.old pool.new generation.new }
 {
-    if run_on(&mut hunt.scout, RUNS, watch) != Scouted::Optimal {
+    if run_on(&mut generation.float_program, RUNS, watch) != FloatSolved::Optimal {
         return Ok(false);
     }
-    let value = hunt.scout.value() / VALUE_UNITS;
-    let is_cheap = ask_round(alloc, task, pricer, pool, hunt)?;
+    let value = generation.float_program.value() / VALUE_UNITS;
+    let is_cheap = ask_round(alloc, task, pricer, pool, generation)?;
     let round = Round {
         value,
-        bound: hunt.asked.bound().unwrap_or(0),
+        bound: generation.asked.bound().unwrap_or(0),
         is_cheap,
     };
-    Ok(boxing.follow(round, &hunt.asked, &mut hunt.scout))
+    Ok(boxing.follow(round, &generation.asked, &mut generation.float_program))
 }
 
 /// Takes rounds in boxes until they are to be lifted, or until the watch is over.
@@ -159,19 +164,19 @@ fn box_rounds<W: Watch>(
     task: &NodeTask,
     pricer: &mut Pricer,
     pool: &mut Pool,
-    hunt: &mut Hunt,
+    generation: &mut Generation,
     boxing: &mut Boxing,
     watch: &W,
 ) -> Result<(), Memory>
-    requires { IsHunting task.now pricer.old pool.old hunt.old }
-    ensures { StayHunting task.now pricer.new pool.old pool.new hunt.new }
+    requires { IsGenerating task.now pricer.old pool.old generation.old }
+    ensures { StayGenerating task.now pricer.new pool.old pool.new generation.new }
 {
     for _round in 0..ROUNDS {
-        hunt.tell(pool.len(), watch);
+        generation.tell(pool.len(), watch);
         if watch.is_over() {
             return Ok(());
         }
-        let goes_on = box_once(alloc, task, pricer, pool, hunt, boxing, watch)?;
+        let goes_on = box_once(alloc, task, pricer, pool, generation, boxing, watch)?;
         if !goes_on {
             return Ok(());
         }
@@ -185,26 +190,33 @@ fn box_rounds<W: Watch>(
 ///
 /// # Errors
 ///
-/// `Memory` where memory runs out; the hunt is without boxes then too.
-pub(crate) fn hunt_in_boxes<W: Watch>(
+/// `Memory` where memory runs out; the column generation is without boxes then too.
+pub(crate) fn generation_in_boxes<W: Watch>(
     alloc: Global,
     task: &NodeTask,
     pricer: &mut Pricer,
     pool: &mut Pool,
-    hunt: &mut Hunt,
+    generation: &mut Generation,
     watch: &W,
 ) -> Result<(), Memory>
-    requires { IsHunting task.now pricer.old pool.old hunt.old }
-    ensures { StayHunting task.now pricer.new pool.old pool.new hunt.new }
+    requires { IsGenerating task.now pricer.old pool.old generation.old }
+    ensures { StayGenerating task.now pricer.new pool.old pool.new generation.new }
 {
-    let Some(bound) = hunt.asked.bound() else {
+    let Some(bound) = generation.asked.bound() else {
         return Ok(());
     };
-    let held = hunt.desk.held.as_slice();
-    let best = hunt.asked.best();
-    let mut boxing = begin(alloc, task.rows, held, best, bound, &mut hunt.scout)?;
-    let end = box_rounds(alloc, task, pricer, pool, hunt, &mut boxing, watch);
-    boxing.boxes.lift(&mut hunt.scout);
+    let held = generation.workspace.held.as_slice();
+    let best = generation.asked.best();
+    let mut boxing = begin(
+        alloc,
+        task.rows,
+        held,
+        best,
+        bound,
+        &mut generation.float_program,
+    )?;
+    let end = box_rounds(alloc, task, pricer, pool, generation, &mut boxing, watch);
+    boxing.boxes.lift(&mut generation.float_program);
     drop(boxing);
     end
 }

@@ -1,26 +1,26 @@
-//! What a hunt hands on.
+//! What a column generation hands on.
 
 ghost use Rattle.std.specs.Prelude.{ℕ, ◌<◌, All, List as Items, length, IfOk};
-ghost use Rattle.roster_model.specs.declared.instance.Cut.{Cut as PathCut};
-ghost use Rattle.roster_model.specs.declared.instance.Instance.{Instance as Model};
+ghost use Rattle.model_rosters.specs.declared.instance.Cut.{Cut as PathCut};
+ghost use Rattle.model_rosters.specs.declared.instance.Instance.{Instance as Model};
 ghost use Rattle.tree_pool.specs.Pools.{PoolTree, IsPool};
-ghost use Rattle.master_rows.specs.node_task.Tasks.{IsTask};
-ghost use Rattle.node_columns.specs.Columns.{IsDesk};
+ghost use Rattle.lp_master_rows.specs.node_task.Tasks.{IsTask};
+ghost use Rattle.search_node_columns.specs.Columns.{IsWorkspace};
 
 use crate::asked::Asked;
-use crate::hunt::Hunt;
-use crate::scouting::{basic_own, basic_trees, placed_trees};
-use master_rows::NodeTask;
-use near_prices::{NearHint, near_hint};
-use node_columns::{ColumnDesk, desk_of};
-use roster_model::{List, Memory};
+use crate::float_columns::{basic_own, basic_trees, placed_trees};
+use crate::generation::Generation;
+use lp_master_rows::NodeTask;
+use lp_near_prices::{NearHint, near_hint};
+use model_rosters::{List, Memory};
+use search_node_columns::{ColumnWorkspace, workspace_of};
 use std::alloc::Global;
 use tree_pool::Pool;
 
 /// How many units of a near price make one of the prices that are asked at.
 const FINE: i128 = 65_536;
 
-/// What a hunt ends with: a basis that may be a good one.
+/// What a column generation ends with: a basis that may be a good one.
 #[derive(Drop)]
 pub struct Hint {
     /// Its trees of the pool.
@@ -31,10 +31,10 @@ pub struct Hint {
     pub near: NearHint,
     /// The best prices that were asked at, in units of 2^-40; none where none are known.
     pub best: List<i128>,
-    /// Whether the hunt ended before no tree was cheap, where the value was near to what the best prices
-    /// show.
+    /// Whether the column generation ended before no tree was cheap, where the value was near to what the
+    /// best prices show.
     pub is_early: bool,
-    /// Whether a watch ended the hunt.
+    /// Whether a watch ended the column generation.
     pub is_stopped: bool,
 }
 
@@ -52,33 +52,33 @@ fn want_listed(wanted: &mut List<u32>, own: &[u32], count: usize) -> Result<(), 
 }
 
 /// Wants columns of rows beside those that are wanted.
-fn want_own(desk: &mut ColumnDesk, own: &[u32]) -> Result<(), Memory>
-    requires { All (λ (j : ℕ). j < length desk.old.held) desk.old.wanted }
+fn want_own(workspace: &mut ColumnWorkspace, own: &[u32]) -> Result<(), Memory>
+    requires { All (λ (j : ℕ). j < length workspace.old.held) workspace.old.wanted }
     ensures { IfOk result (λ _. (i : Model) (cuts : Items PathCut) (pool : Items PoolTree)
-        → IsDesk i cuts pool desk.old → IsDesk i cuts pool desk.new) }
+        → IsWorkspace i cuts pool workspace.old → IsWorkspace i cuts pool workspace.new) }
 {
-    want_listed(&mut desk.wanted, own, desk.held.len())
+    want_listed(&mut workspace.wanted, own, workspace.held.len())
 }
 
-/// Returns a desk for a node, with the rows' own columns and the trees of a basis listed, and the columns of
-/// the basis wanted.
+/// Returns a workspace for a node, with the rows' own columns and the trees of a basis listed, and the
+/// columns of the basis wanted.
 ///
 /// # Errors
 ///
 /// `Memory` where memory runs out; nothing is kept then.
-pub fn hinted_desk(
+pub fn hinted_workspace(
     alloc: Global,
     task: &NodeTask,
     hint: &Hint,
     pool: &Pool,
-) -> Result<ColumnDesk, Memory>
+) -> Result<ColumnWorkspace, Memory>
     requires task { IsTask task.now }
     requires pool { IsPool task.now.day.instance.now.grammar pool.now }
-    ensures { IfOk result (IsDesk task.now.day.instance.now task.now.cuts.now pool.now) }
+    ensures { IfOk result (IsWorkspace task.now.day.instance.now task.now.cuts.now pool.now) }
 {
-    let mut desk = desk_of(alloc, task, pool, hint.trees.as_slice())?;
-    want_own(&mut desk, hint.own.as_slice())?;
-    Ok(desk)
+    let mut workspace = workspace_of(alloc, task, pool, hint.trees.as_slice())?;
+    want_own(&mut workspace, hint.own.as_slice())?;
+    Ok(workspace)
 }
 
 /// Returns prices in units of 2^-40 that stand in units of 2^-24.
@@ -98,12 +98,18 @@ fn best_of(alloc: Global, asked: &Asked) -> Result<List<i128>, Memory> {
     }
 }
 
-/// Returns what a hunt gives for near prices; where it ended early, with the best prices that were asked at.
-fn near_of(alloc: Global, task: &NodeTask, pool: &Pool, hunt: &Hunt) -> Result<NearHint, Memory>
+/// Returns what a column generation gives for near prices; where it ended early, with the best prices that
+/// were asked at.
+fn near_of(
+    alloc: Global,
+    task: &NodeTask,
+    pool: &Pool,
+    generation: &Generation,
+) -> Result<NearHint, Memory>
     requires { IsTask task.now }
 {
-    let scout = &hunt.scout;
-    let places = placed_trees(alloc, hunt.desk.held.as_slice(), scout)?;
+    let float_program = &generation.float_program;
+    let places = placed_trees(alloc, generation.workspace.held.as_slice(), float_program)?;
     let near = near_hint(
         alloc,
         task.day.instance,
@@ -111,9 +117,9 @@ fn near_of(alloc: Global, task: &NodeTask, pool: &Pool, hunt: &Hunt) -> Result<N
         task.rows,
         pool,
         places.as_slice(),
-        scout,
+        float_program,
     )?;
-    match hunt.asked.early_prices() {
+    match generation.asked.early_prices() {
         None => Ok(near),
         Some(best) => Ok(NearHint {
             listed: near.listed,
@@ -122,7 +128,7 @@ fn near_of(alloc: Global, task: &NodeTask, pool: &Pool, hunt: &Hunt) -> Result<N
     }
 }
 
-/// Returns the basis of a hunt, which a watch may have stopped.
+/// Returns the basis of a column generation, which a watch may have stopped.
 ///
 /// # Errors
 ///
@@ -131,18 +137,18 @@ pub(crate) fn hint_of(
     alloc: Global,
     task: &NodeTask,
     pool: &Pool,
-    hunt: &Hunt,
+    generation: &Generation,
     is_stopped: bool,
 ) -> Result<Hint, Memory>
     requires { IsTask task.now }
 {
-    let held = hunt.desk.held.as_slice();
+    let held = generation.workspace.held.as_slice();
     Ok(Hint {
-        trees: basic_trees(alloc, held, &hunt.scout)?,
-        own: basic_own(alloc, held, &hunt.scout)?,
-        near: near_of(alloc, task, pool, hunt)?,
-        best: best_of(alloc, &hunt.asked)?,
-        is_early: hunt.asked.early_prices().is_some(),
+        trees: basic_trees(alloc, held, &generation.float_program)?,
+        own: basic_own(alloc, held, &generation.float_program)?,
+        near: near_of(alloc, task, pool, generation)?,
+        best: best_of(alloc, &generation.asked)?,
+        is_early: generation.asked.early_prices().is_some(),
         is_stopped,
     })
 }

@@ -1,15 +1,15 @@
-//! Runs of a scout, and what becomes of a hunt that is lost.
+//! Runs of a float program, and what becomes of a column generation that is lost.
 
-ghost use Rattle.search_columns.specs.Hunts.{IsHunting, StayHunting};
+ghost use Rattle.search_columns.specs.Generations.{IsGenerating, StayGenerating};
 
-use crate::boxing::hunt_in_boxes;
-use crate::hunt::Hunt;
-use cheapest_tree::Pricer;
-use master_rows::NodeTask;
-use roster_model::Memory;
-use scout::{Limits, Scout, Scouted};
+use crate::boxing::generation_in_boxes;
+use crate::generation::Generation;
+use lp_float_programs::{FloatProgram, FloatSolved, Limits};
+use lp_master_rows::NodeTask;
+use model_rosters::Memory;
 use search_watch::Watch;
 use std::alloc::Global;
+use tree_cheapest::Pricer;
 use tree_pool::Pool;
 
 /// The steps of a run that is careful.
@@ -18,75 +18,82 @@ const CAREFUL: Limits = Limits {
     primal: 20_000,
 };
 
-/// How often a careful scout runs in a round while its steps are spent.
+/// How often a careful float program runs in a round while its steps are spent.
 const RUNS: u32 = 2;
 
-/// A hunt with more pivots is rescued. Hunts of days whose blocks are short take a tenth of them, and one of
-/// a day of 48 periods took 6,163.
+/// A column generation with more pivots is rescued. Column generations of days whose blocks are short take a
+/// tenth of them, and one of a day of 48 periods took 6,163.
 const SLOW: u64 = 8_000;
 
-/// Runs a careful scout, up to so many times while its steps are spent and the watch is not over.
-pub(crate) fn run_on<W: Watch>(scout: &mut Scout, most: u32, watch: &W) -> Scouted {
-    let mut end = scout.run(CAREFUL, watch);
+/// Runs a careful float program, up to so many times while its steps are spent and the watch is not over.
+pub(crate) fn run_on<W: Watch>(
+    float_program: &mut FloatProgram,
+    most: u32,
+    watch: &W,
+) -> FloatSolved {
+    let mut end = float_program.run(CAREFUL, watch);
     for _again in 1..most {
-        if end != Scouted::Spent || watch.is_over() {
+        if end != FloatSolved::Spent || watch.is_over() {
             return end;
         }
-        end = scout.run(CAREFUL, watch);
+        end = float_program.run(CAREFUL, watch);
     }
     end
 }
 
-/// Runs a careful scout; where a number leaves its bounds, once more from the rows' own columns.
-fn run_careful<W: Watch>(scout: &mut Scout, watch: &W) -> Scouted {
-    let end = run_on(scout, RUNS, watch);
-    if end == Scouted::Grew && scout.start_beyond().is_ok() {
-        return scout.run(CAREFUL, watch);
+/// Runs a careful float program; where a number leaves its bounds, once more from the rows' own columns.
+fn run_careful<W: Watch>(float_program: &mut FloatProgram, watch: &W) -> FloatSolved {
+    let end = run_on(float_program, RUNS, watch);
+    if end == FloatSolved::Grew && float_program.start_beyond().is_ok() {
+        return float_program.run(CAREFUL, watch);
     }
     end
 }
 
-/// Says whether a hunt is to be rescued whose run ended so, with so many pivots in all.
-fn is_lost(end: Scouted, pivots: u64) -> bool {
-    end == Scouted::Spent || end == Scouted::Grew || pivots > SLOW
+/// Says whether a column generation is to be rescued whose run ended so, with so many pivots in all.
+fn is_lost(end: FloatSolved, pivots: u64) -> bool {
+    end == FloatSolved::Spent || end == FloatSolved::Grew || pivots > SLOW
 }
 
-/// Runs the scout of a hunt. Where its steps are spent, a number leaves its bounds or there were many pivots,
-/// and not since the watch is over, the hunt is *rescued*: it is careful from then on, and takes rounds in
-/// boxes first.
+/// Runs the float program of a column generation. Where its steps are spent, a number leaves its bounds or
+/// there were many pivots, and not since the watch is over, the column generation is *rescued*: it is careful
+/// from then on, and takes rounds in boxes first.
 ///
 /// # Errors
 ///
-/// `Memory` where memory runs out; the hunt may go on then, with the trees that were found.
+/// `Memory` where memory runs out; the column generation may go on then, with the trees that were found.
 pub(crate) fn run_or_rescue<W: Watch>(
     alloc: Global,
     task: &NodeTask,
     pricer: &mut Pricer,
     pool: &mut Pool,
-    hunt: &mut Hunt,
+    generation: &mut Generation,
     steps: Limits,
     watch: &W,
-) -> Result<Scouted, Memory>
-    requires { IsHunting task.now pricer.old pool.old hunt.old }
-    ensures { StayHunting task.now pricer.new pool.old pool.new hunt.new }
+) -> Result<FloatSolved, Memory>
+    requires { IsGenerating task.now pricer.old pool.old generation.old }
+    ensures { StayGenerating task.now pricer.new pool.old pool.new generation.new }
 {
-    if hunt.scout.is_careful() {
-        return Ok(run_careful(&mut hunt.scout, watch));
+    if generation.float_program.is_careful() {
+        return Ok(run_careful(&mut generation.float_program, watch));
     }
-    let end = hunt.scout.run(steps, watch);
-    if !is_lost(end, hunt.scout.pivots()) || watch.is_over() {
+    let end = generation.float_program.run(steps, watch);
+    if !is_lost(end, generation.float_program.pivots()) || watch.is_over() {
         return Ok(end);
     }
-    hunt.scout.be_careful();
-    hunt_in_boxes(alloc, task, pricer, pool, hunt, watch)?;
-    Ok(run_careful(&mut hunt.scout, watch))
+    generation.float_program.be_careful();
+    generation_in_boxes(alloc, task, pricer, pool, generation, watch)?;
+    Ok(run_careful(&mut generation.float_program, watch))
 }
 
-/// Takes the perturbations of a scout off, and runs. A careful one in which a number leaves its bounds by
-/// that begins once more from the rows' own columns.
-pub(crate) fn settle<W: Watch>(scout: &mut Scout, steps: Limits, watch: &W) {
-    let end = scout.settle(steps, watch);
-    if end == Scouted::Grew && scout.is_careful() && scout.start_beyond().is_ok() {
-        let _end = scout.run(CAREFUL, watch);
+/// Takes the perturbations of a float program off, and runs. A careful one in which a number leaves its
+/// bounds by that begins once more from the rows' own columns.
+pub(crate) fn settle<W: Watch>(float_program: &mut FloatProgram, steps: Limits, watch: &W) {
+    let end = float_program.settle(steps, watch);
+    if end == FloatSolved::Grew
+        && float_program.is_careful()
+        && float_program.start_beyond().is_ok()
+    {
+        let _end = float_program.run(CAREFUL, watch);
     }
 }

@@ -1,29 +1,30 @@
-//! What a hunt begins with: trees, and a basis that is kept.
+//! What a column generation begins with: trees, and a basis that is kept.
 
 use crate::bases::Basis;
 use crate::steering::Steering;
-use master_rows::{NodeRows, NodeTask};
-use roster_model::{Cut, List, Memory, Side};
-use scout::Key;
+use lp_float_programs::Key;
+use lp_master_rows::{NodeRows, NodeTask};
+use model_rosters::{Cut, List, Memory, Side};
 use std::alloc::Global;
 use tree_pool::Pool;
 
-/// How many trees of the pool a hunt begins with, for each row, where no basis is known: the last ones.
+/// How many trees of the pool a column generation begins with, for each row, where no basis is known: the
+/// last ones.
 const LAST: usize = 6;
 
 /// How many trees it begins with, for each row, where one is: the best ones at the prices there.
 const BEST: usize = 2;
 
-/// What a hunt begins with.
+/// What a column generation begins with.
 #[derive(Drop)]
 pub(crate) struct Start {
     /// Trees of the pool, those of the basis first.
     pub(crate) trees: List<usize>,
-    /// The basis, by the keys that its columns have in the scout; none where it is not known.
+    /// The basis, by the keys that its columns have in the float program; none where it is not known.
     pub(crate) keys: List<Key>,
     /// Prices of the rows that may be good ones, in units of 2^-24; none where nothing is known of them.
     pub(crate) prices: List<i128>,
-    /// Whether the hunt is careful from its begin on, as that was whose basis it is.
+    /// Whether the column generation is careful from its begin on, as that was whose basis it is.
     pub(crate) is_careful: bool,
 }
 
@@ -109,7 +110,7 @@ fn keys_of(alloc: Global, cuts: &[Cut], rows: usize, basis: &Basis) -> Result<Li
     Ok(keys)
 }
 
-/// Returns what a hunt begins with from the basis of a node above.
+/// Returns what a column generation begins with from the basis of a node above.
 fn start_from(alloc: Global, task: &NodeTask, pool: &Pool, basis: &Basis) -> Result<Start, Memory> {
     let (cuts, rows) = (task.cuts, task.rows);
     let count = rows.right().len();
@@ -123,7 +124,7 @@ fn start_from(alloc: Global, task: &NodeTask, pool: &Pool, basis: &Basis) -> Res
     })
 }
 
-/// Returns what a hunt begins with where no basis is known, at these prices.
+/// Returns what a column generation begins with where no basis is known, at these prices.
 fn start_without(
     alloc: Global,
     rows: &NodeRows,
@@ -141,8 +142,9 @@ fn start_without(
     })
 }
 
-/// Returns what a hunt begins with at a node: the basis of the nearest node above it that is kept. Where
-/// none is, or where no tree is wanted and the hunt there was not careful, it begins without one.
+/// Returns what a column generation begins with at a node: the basis of the nearest node above it that is
+/// kept. Where none is, or where no tree is wanted and the column generation there was not careful, it begins
+/// without one.
 ///
 /// # Errors
 ///

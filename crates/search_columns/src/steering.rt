@@ -1,7 +1,7 @@
 //! What steers the solution of a node.
 
 use crate::bases::Bases;
-use crate::hunt::Ending;
+use crate::generation::Ending;
 
 /// From so many trees in a basis on, it is first asked whether they show near prices best. The weights of a
 /// basis take 0.2 to 0.45 bits a tree, as measured, so beyond it those of the exact path are seldom narrow.
@@ -28,7 +28,7 @@ impl First {
         }
     }
 
-    /// Returns when a hunt may end.
+    /// Returns when a column generation may end.
     pub fn ending(self) -> Ending {
         match self {
             First::Exact => Ending::Whole,
@@ -44,6 +44,6 @@ pub struct Steering<'a> {
     pub wanted: &'a [usize],
     /// Which way to prices is gone first.
     pub first: First,
-    /// The last bases of nodes: a hunt begins with one, and its own is kept.
+    /// The last bases of nodes: a column generation begins with one, and its own is kept.
     pub bases: Bases,
 }

@@ -1,21 +1,21 @@
-//! What a hunt begins with beside a basis, by the volume algorithm.
+//! What a column generation begins with beside a basis, by the volume algorithm.
 
 ghost use Rattle.tree_pool.specs.Pools.{IsPool};
-ghost use Rattle.master_rows.specs.search_day.Rooms.{Grows};
-ghost use Rattle.master_rows.specs.node_task.Tasks.{IsTask};
-ghost use Rattle.search_columns.specs.Tools.{MayHunt, StayTools};
+ghost use Rattle.lp_master_rows.specs.search_day.Rooms.{Grows};
+ghost use Rattle.lp_master_rows.specs.node_task.Tasks.{IsTask};
+ghost use Rattle.search_columns.specs.Tools.{MayGenerate, StayTools};
 
 use crate::starting::{Start, copied, joined};
-use cheapest_tree::Pricer;
-use master_rows::NodeTask;
-use node_columns::volume::{Volume, volume};
-use roster_model::{List, Memory};
+use lp_master_rows::NodeTask;
+use model_rosters::{List, Memory};
+use search_node_columns::volume::{Volume, volume};
 use search_watch::Watch;
 use std::alloc::Global;
+use tree_cheapest::Pricer;
 use tree_pool::Pool;
 
-/// From so many rows on a hunt begins with the volume algorithm, and ends where its best prices are good
-/// enough: below, a scout alone takes hundredths of a second.
+/// From so many rows on a column generation begins with the volume algorithm, and ends where its best prices
+/// are good enough: below, a float program alone takes hundredths of a second.
 pub(crate) const MANY_ROWS: usize = 250;
 
 /// The passes of the volume algorithm where no prices are known.
@@ -24,10 +24,10 @@ const PASSES: u32 = 3_500;
 /// Its passes from the prices of a node above.
 const FURTHER_PASSES: u32 = 400;
 
-/// How many of its trees a hunt begins with, for each row.
+/// How many of its trees a column generation begins with, for each row.
 const TREES: usize = 4;
 
-/// What a hunt begins with beside a basis.
+/// What a column generation begins with beside a basis.
 #[derive(Drop)]
 pub(crate) struct Warm {
     /// Trees of the pool, those of the start first.
@@ -79,8 +79,8 @@ fn begin_at(start: &Start) -> (Option<&[i128]>, u32) {
     }
 }
 
-/// Returns what a hunt begins with: at many rows the cheapest trees of the volume algorithm, which begins at
-/// the start's prices, beside those of the start. A watch that is over ends that.
+/// Returns what a column generation begins with: at many rows the cheapest trees of the volume algorithm,
+/// which begins at the start's prices, beside those of the start. A watch that is over ends that.
 ///
 /// # Errors
 ///
@@ -94,7 +94,7 @@ pub(crate) fn warm_up<W: Watch>(
     pool: &mut Pool,
     watch: &W,
 ) -> Result<Warm, Memory>
-    requires { MayHunt task.now pricer.old pool.old }
+    requires { MayGenerate task.now pricer.old pool.old }
     ensures { StayTools task.now.day pricer.new pool.old pool.new }
 {
     let count = task.rows.right().len();

@@ -1,12 +1,12 @@
 -- An old roster is offered.
 use Rattle.std.proofs.Common.{ℕ, arith, ◌≤◌, Option, None, Some, List}
-use Rattle.roster_model.specs.declared.instance.Instance.{Instance}
-use Rattle.roster_model.specs.declared.instance.Shift.{Shift}
-use Rattle.roster_model.specs.Rosters.{Costs}
-use Rattle.certificates.specs.RosterCauses.{duties}
-use Rattle.candidate_rosters.specs.declared.roster.Roster.{Roster}
-use Rattle.candidate_rosters.specs.Offers.{limit_of}
-use Rattle.candidate_rosters.specs.Rosters.{CostsAtMost}
+use Rattle.model_rosters.specs.declared.instance.Instance.{Instance}
+use Rattle.model_rosters.specs.declared.instance.Shift.{Shift}
+use Rattle.model_rosters.specs.Rosters.{Costs}
+use Rattle.check_certificates.specs.RosterCauses.{duties}
+use Rattle.search_candidates.specs.declared.roster.Roster.{Roster}
+use Rattle.search_candidates.specs.Offers.{limit_of}
+use Rattle.search_candidates.specs.Rosters.{CostsAtMost}
 use Rattle.search_primal.specs.OldRosters.{ReachesOld}
 
 limit-most : (i : Instance) (found : Option Roster) (x : ℕ) → CostsAtMost x found → limit_of i found ≤ x

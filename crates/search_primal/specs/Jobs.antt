@@ -1,12 +1,12 @@
 -- Days that are searched, and what is asked of a search.
 use Rattle.std.specs.Prelude.{◌≤◌, Option, length}
-use Rattle.roster_model.specs.Folds.{Each}
-use Rattle.bound_laws.specs.Infeasible.{IsPlainlyInfeasible}
-use Rattle.certificates.specs.Sound.{IsSoundShift}
+use Rattle.model_rosters.specs.Folds.{Each}
+use Rattle.law_bounds.specs.Infeasible.{IsPlainlyInfeasible}
+use Rattle.check_certificates.specs.Sound.{IsSoundShift}
 use Rattle.check_parts.specs.priced_part.Filled.{TellsDerived}
-use Rattle.master_rows.specs.declared.search_day.day.Day.{Day}
-use Rattle.master_rows.specs.search_day.Days.{IsDay}
-use Rattle.candidate_rosters.specs.declared.roster.Roster.{Roster}
+use Rattle.lp_master_rows.specs.declared.search_day.day.Day.{Day}
+use Rattle.lp_master_rows.specs.search_day.Days.{IsDay}
+use Rattle.search_candidates.specs.declared.roster.Roster.{Roster}
 use Rattle.search_primal.specs.declared.job.SearchedDay.{SearchedDay}
 use Rattle.search_primal.specs.declared.job.Job.{Job}
 use Rattle.search_primal.specs.OldRosters.{ReachesOld}

@@ -1,4 +1,4 @@
-pub mod Desks
+pub mod Workspaces
 pub mod Rounded
 pub mod Solutions
 pub mod OldRosters

@@ -1,11 +1,11 @@
 -- Nodes that leave some arc more than one count.
 use Rattle.std.specs.Prelude.{◌≤◌, List, length}
-use Rattle.roster_model.specs.declared.instance.Cut.{Cut}
-use Rattle.roster_model.specs.declared.instance.Instance.{Instance}
-use Rattle.roster_model.specs.Folds.{Each}
-use Rattle.roster_model.specs.Limits.{IsSmallCut}
-use Rattle.bound_laws.specs.master_laws.Rows.{rows_of}
-use Rattle.arc_counts.specs.count_boxes.Paths.{IsBoxOf, IsLooseAt}
+use Rattle.model_rosters.specs.declared.instance.Cut.{Cut}
+use Rattle.model_rosters.specs.declared.instance.Instance.{Instance}
+use Rattle.model_rosters.specs.Folds.{Each}
+use Rattle.model_rosters.specs.Limits.{IsSmallCut}
+use Rattle.law_bounds.specs.master_laws.Rows.{rows_of}
+use Rattle.search_arc_counts.specs.count_boxes.Paths.{IsBoxOf, IsLooseAt}
 use Rattle.search_primal.specs.declared.open_node.OpenNode.{OpenNode}
 use Rattle.search_primal.specs.Jobs.{IsSearchedDay}
 

@@ -1,11 +1,11 @@
 -- The roster of an old certificate, with which a search begins.
 use Rattle.std.specs.Prelude.{ℕ, ◌≡◌, ◌≤◌, Option, Some, List}
-use Rattle.roster_model.specs.declared.instance.Instance.{Instance}
-use Rattle.roster_model.specs.declared.instance.Shift.{Shift}
-use Rattle.roster_model.specs.Rosters.{Costs}
-use Rattle.certificates.specs.RosterCauses.{duties}
-use Rattle.candidate_rosters.specs.declared.roster.Roster.{Roster}
-use Rattle.candidate_rosters.specs.Offers.{limit_of}
+use Rattle.model_rosters.specs.declared.instance.Instance.{Instance}
+use Rattle.model_rosters.specs.declared.instance.Shift.{Shift}
+use Rattle.model_rosters.specs.Rosters.{Costs}
+use Rattle.check_certificates.specs.RosterCauses.{duties}
+use Rattle.search_candidates.specs.declared.roster.Roster.{Roster}
+use Rattle.search_candidates.specs.Offers.{limit_of}
 
 -- where the words of the shifts are an allowed roster of the day, there is a cost, and it is at most theirs
 abbrev pub IsNoDearerThan : Instance → List Shift → Option ℕ → Type 0

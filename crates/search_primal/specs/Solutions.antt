@@ -1,24 +1,24 @@
 -- Nodes whose master was solved, exactly or nearly.
 use Rattle.std.specs.Prelude.{ℕ, pos, ◌≡◌, ◌≤◌, ◌<◌, ◌<ℤ◌, ◌++◌, List, All, length}
-use Rattle.roster_model.specs.declared.instance.Cut.{Cut}
-use Rattle.roster_model.specs.declared.instance.Instance.{Instance}
-use Rattle.roster_model.specs.declared.instance.Mult.{Mult}
-use Rattle.roster_model.specs.declared.instance.Prices.{Prices}
-use Rattle.roster_model.specs.Cuts.{base_cuts}
-use Rattle.roster_model.specs.Folds.{Each}
-use Rattle.roster_model.specs.PriceLimits.{FitPrices}
-use Rattle.bound_laws.specs.BestPrices.{AreBest}
-use Rattle.bound_laws.specs.Priced.{IsPricedValue}
-use Rattle.fraction.specs.declared.frac.Frac.{Frac}
-use Rattle.bound_laws.specs.master_laws.Laws.{IsBelowHeads}
-use Rattle.bound_laws.specs.master_laws.Rows.{rows_of}
+use Rattle.model_rosters.specs.declared.instance.Cut.{Cut}
+use Rattle.model_rosters.specs.declared.instance.Instance.{Instance}
+use Rattle.model_rosters.specs.declared.instance.Mult.{Mult}
+use Rattle.model_rosters.specs.declared.instance.Prices.{Prices}
+use Rattle.model_rosters.specs.Cuts.{base_cuts}
+use Rattle.model_rosters.specs.Folds.{Each}
+use Rattle.model_rosters.specs.PriceLimits.{FitPrices}
+use Rattle.law_bounds.specs.BestPrices.{AreBest}
+use Rattle.law_bounds.specs.Priced.{IsPricedValue}
+use Rattle.lp_fractions.specs.declared.frac.Frac.{Frac}
+use Rattle.law_bounds.specs.master_laws.Laws.{IsBelowHeads}
+use Rattle.law_bounds.specs.master_laws.Rows.{rows_of}
 use Rattle.tree_pool.specs.Pools.{PoolTree}
-use Rattle.node_columns.specs.declared.weights.Weight.{Weight}
-use Rattle.node_master.specs.declared.ends.NodeEnd.{NodeEnd}
-use Rattle.node_master.specs.declared.ends.NodeEnd.TheVariants.{Best, Near, Failed, Stopped}
-use Rattle.node_master.specs.declared.ends.Solution.{Solution}
-use Rattle.node_master.specs.declared.ends.Solution.TheVariants.{Exact as is_exact, Near as is_near}
-use Rattle.node_master.specs.Ends.{IsBest, IsNear}
+use Rattle.search_node_columns.specs.declared.weights.Weight.{Weight}
+use Rattle.search_masters.specs.declared.ends.NodeEnd.{NodeEnd}
+use Rattle.search_masters.specs.declared.ends.NodeEnd.TheVariants.{Best, Near, Failed, Stopped}
+use Rattle.search_masters.specs.declared.ends.Solution.{Solution}
+use Rattle.search_masters.specs.declared.ends.Solution.TheVariants.{Exact as is_exact, Near as is_near}
+use Rattle.search_masters.specs.Ends.{IsBest, IsNear}
 use Rattle.search_primal.specs.declared.solved.Outcome.{Outcome}
 use Rattle.search_primal.specs.declared.solved.Outcome.TheVariants.{Solved as is_solved, Failed as is_failed, Stopped as is_stopped}
 use Rattle.search_primal.specs.declared.solved.Solved.{Solved}

@@ -1,13 +1,12 @@
 //! Rosters from dives and from weights rounded down, completed and made better.
 
 ghost use Rattle.std.specs.Prelude.{ℕ, ◌<◌, All, IfOk, length};
-ghost use Rattle.master_rows.specs.search_day.Days.{IsDay};
-ghost use Rattle.search_primal.specs.Desks.{CanFind, HasFound};
+ghost use Rattle.lp_master_rows.specs.search_day.Days.{IsDay};
+ghost use Rattle.search_primal.specs.Workspaces.{CanFind, HasFound};
 ghost use Rattle.search_primal.specs.Nodes.{IsOpenNode, IsSmall};
 ghost use Rattle.search_primal.specs.Rounded.{AreFewer};
 ghost use Rattle.search_primal.specs.Solutions.{CanShow};
 
-use crate::desk::SearchDesk;
 use crate::first::is_wide;
 use crate::holes::{HolePlace, offer_holes};
 use crate::offered::offer_trees;
@@ -15,15 +14,16 @@ use crate::open_node::OpenNode;
 use crate::rounded::push_wholes;
 use crate::shortening::shorten;
 use crate::solved::Solved;
-use candidate_rosters::{Roster, limit};
-use dives::{Asks, DiveStart, dive};
-use master_rows::Day;
-use node_master::{FULL, Pool, Weight};
-use parse_graph::Graph;
-use roster_model::{Instance, List, Memory, Prices};
-use roster_moves::{Guide, complete};
+use crate::workspace::SearchWorkspace;
+use lp_master_rows::Day;
+use model_rosters::{Instance, List, Memory, Prices};
+use search_candidates::{Roster, limit};
+use search_dives::{Asks, DiveStart, dive};
+use search_masters::{FULL, Pool, Weight};
+use search_moves::{Guide, complete};
 use search_watch::{Watch, Work};
 use std::alloc::Global;
+use tree_graph::Graph;
 
 /// At every which node a roster is looked for by a dive, which takes about as long as it takes to price the
 /// root.
@@ -129,23 +129,23 @@ pub(crate) fn offer_begun<W: Watch>(
     day: &Day,
     begun: &[usize],
     guide: &Guide,
-    desk: &mut SearchDesk,
+    workspace: &mut SearchWorkspace,
     pool: &mut Pool,
     best: &mut Option<Roster>,
     watch: &W,
 ) -> Result<(), Memory>
     requires day { IsDay day.now }
     requires begun { All (λ c. c < length pool.old) begun.now }
-    requires find { CanFind day.now pool.old desk.old best.old }
-    ensures { HasFound day.now pool.old pool.new desk.new best.old best.new }
+    requires find { CanFind day.now pool.old workspace.old best.old }
+    ensures { HasFound day.now pool.old pool.new workspace.new best.old best.new }
 {
-    let columns = complete(alloc, day, begun, guide, &mut desk.moves, pool, watch)?;
+    let columns = complete(alloc, day, begun, guide, &mut workspace.moves, pool, watch)?;
     offer_trees(
         alloc,
         day.instance,
         columns.as_slice(),
         pool,
-        &mut desk.rosters,
+        &mut workspace.rosters,
         best,
     )
 }
@@ -165,24 +165,24 @@ fn offer_dived<W: Watch>(
     alloc: Global,
     node: &OpenNode,
     guide: &Guide,
-    desk: &mut SearchDesk,
+    workspace: &mut SearchWorkspace,
     pool: &mut Pool,
     best: &mut Option<Roster>,
     watch: &W,
 ) -> Result<bool, Memory>
     requires node { IsOpenNode node.now }
     requires small { IsSmall node.now.searched.day.instance.now node.now.cuts.now }
-    requires find { CanFind node.now.searched.day pool.old desk.old best.old }
-    ensures { HasFound node.now.searched.day pool.old pool.new desk.new best.old best.new }
+    requires find { CanFind node.now.searched.day pool.old workspace.old best.old }
+    ensures { HasFound node.now.searched.day pool.old pool.new workspace.new best.old best.new }
 {
     let day = &node.searched.day;
     let start = DiveStart {
-        last: &desk.handover.last,
-        wanted: desk.handover.wanted.as_slice(),
+        last: &workspace.handover.last,
+        wanted: workspace.handover.wanted.as_slice(),
         asks: asks_on(day.graph),
     };
     let cost = limit(day.instance, best);
-    let short = &mut desk.moves.short;
+    let short = &mut workspace.moves.short;
     let found = dive(alloc, day, node.cuts, &start, cost, short, pool, watch)?;
     let Some(begun) = found else {
         return Ok(true);
@@ -190,7 +190,16 @@ fn offer_dived<W: Watch>(
     if begun.is_empty() {
         return Ok(false);
     }
-    offer_begun(alloc, day, begun.as_slice(), guide, desk, pool, best, watch)?;
+    offer_begun(
+        alloc,
+        day,
+        begun.as_slice(),
+        guide,
+        workspace,
+        pool,
+        best,
+        watch,
+    )?;
     Ok(true)
 }
 
@@ -200,56 +209,65 @@ fn offer_completed<W: Watch>(
     day: &Day,
     weights: &[Weight],
     guide: &Guide,
-    desk: &mut SearchDesk,
+    workspace: &mut SearchWorkspace,
     pool: &mut Pool,
     best: &mut Option<Roster>,
     watch: &W,
 ) -> Result<(), Memory>
     requires day { IsDay day.now }
     requires weights { All (λ w. w.column < length pool.old) weights.now }
-    requires find { CanFind day.now pool.old desk.old best.old }
-    ensures { HasFound day.now pool.old pool.new desk.new best.old best.new }
+    requires find { CanFind day.now pool.old workspace.old best.old }
+    ensures { HasFound day.now pool.old pool.new workspace.new best.old best.new }
 {
     let begun = wholes(alloc, day.instance, weights)?;
-    offer_begun(alloc, day, begun.as_slice(), guide, desk, pool, best, watch)
+    offer_begun(
+        alloc,
+        day,
+        begun.as_slice(),
+        guide,
+        workspace,
+        pool,
+        best,
+        watch,
+    )
 }
 
-/// Offers a roster at a node where more than completion is due: by holes on a wide day, or where these give none
-/// that becomes the best one, of the trees that a dive fixes. Says whether one was offered so, or the dive was
-/// dropped.
+/// Offers a roster at a node where more than completion is due: by holes on a wide day, or where these give
+/// none that becomes the best one, of the trees that a dive fixes. Says whether one was offered so, or the
+/// dive was dropped.
 fn offer_due<W: Watch>(
     alloc: Global,
     node: &OpenNode,
     guide: &Guide,
-    desk: &mut SearchDesk,
+    workspace: &mut SearchWorkspace,
     pool: &mut Pool,
     best: &mut Option<Roster>,
     watch: &W,
 ) -> Result<bool, Memory>
     requires node { IsOpenNode node.now }
     requires small { IsSmall node.now.searched.day.instance.now node.now.cuts.now }
-    requires find { CanFind node.now.searched.day pool.old desk.old best.old }
-    ensures { HasFound node.now.searched.day pool.old pool.new desk.new best.old best.new }
+    requires find { CanFind node.now.searched.day pool.old workspace.old best.old }
+    ensures { HasFound node.now.searched.day pool.old pool.new workspace.new best.old best.new }
 {
     let place = HolePlace {
         turn: guide.turn,
         bound: guide.goal,
         prices: Some(guide.prices),
     };
-    if offer_holes(alloc, &node.searched.day, &place, desk, best, watch)? {
+    if offer_holes(alloc, &node.searched.day, &place, workspace, best, watch)? {
         return Ok(true);
     }
-    offer_dived(alloc, node, guide, desk, pool, best, watch)
+    offer_dived(alloc, node, guide, workspace, pool, best, watch)
 }
 
-/// Offers a roster at a node over the arcs that are kept: by holes or of the trees that a dive fixes, where one
-/// is due and made, or else of the solution's trees.
+/// Offers a roster at a node over the arcs that are kept: by holes or of the trees that a dive fixes, where
+/// one is due and made, or else of the solution's trees.
 fn offer_kept<W: Watch>(
     alloc: Global,
     node: &OpenNode,
     solved: &Solved,
     stage: &Stage,
-    desk: &mut SearchDesk,
+    workspace: &mut SearchWorkspace,
     pool: &mut Pool,
     best: &mut Option<Roster>,
     watch: &W,
@@ -257,29 +275,28 @@ fn offer_kept<W: Watch>(
     requires node { IsOpenNode node.now }
     requires small { IsSmall node.now.searched.day.instance.now node.now.cuts.now }
     requires weights { All (λ w. w.column < length pool.old) solved.now.weights }
-    requires find { CanFind node.now.searched.day pool.old desk.old best.old }
-    ensures { HasFound node.now.searched.day pool.old pool.new desk.new best.old best.new }
+    requires find { CanFind node.now.searched.day pool.old workspace.old best.old }
+    ensures { HasFound node.now.searched.day pool.old pool.new workspace.new best.old best.new }
 {
     let day = &node.searched.day;
     let guide = priced_guide(day.graph, pool, &solved.prices, stage);
     let is_over = watch.is_over();
     if !is_over
         && dives_at(day.graph, stage, pool)
-        && offer_due(alloc, node, &guide, desk, pool, best, watch)?
+        && offer_due(alloc, node, &guide, workspace, pool, best, watch)?
     {
         return Ok(());
     }
     let weights = solved.weights.as_slice();
-    offer_completed(alloc, day, weights, &guide, desk, pool, best, watch)
+    offer_completed(alloc, day, weights, &guide, workspace, pool, best, watch)
 }
 
 /// Offers a roster, unless the best one already costs no more than the bound that the node leaves: at the
-/// first node and at each fourth one after it, on a wide day at each second one, that of the trees that a dive
-/// fixes, unless it is dropped, and on a wide day first one by holes; at the others, and where the dive fixes
-/// none, that of the solution's trees.
-/// Its trees are looked for over the arcs that a roster can have which costs less than the best one, on a wide
-/// day over all. Where the search is over it offers none but that of the solution's trees, and that only where
-/// there is no best one.
+/// first node and at each fourth one after it, on a wide day at each second one, that of the trees that a
+/// dive fixes, unless it is dropped, and on a wide day first one by holes; at the others, and where the dive
+/// fixes none, that of the solution's trees. Its trees are looked for over the arcs that a roster can have
+/// which costs less than the best one, on a wide day over all. Where the search is over it offers none but
+/// that of the solution's trees, and that only where there is no best one.
 ///
 /// # Errors
 ///
@@ -290,7 +307,7 @@ pub fn offer_at_node<W: Watch>(
     node: &OpenNode,
     solved: &Solved,
     stage: &Stage,
-    desk: &mut SearchDesk,
+    workspace: &mut SearchWorkspace,
     pool: &mut Pool,
     best: &mut Option<Roster>,
     watch: &W,
@@ -299,14 +316,14 @@ pub fn offer_at_node<W: Watch>(
     requires small { IsSmall node.now.searched.day.instance.now node.now.cuts.now }
     requires prices { CanShow node.now.searched.day.instance.now solved.now.prices node.now.cuts.now }
     requires weights { All (λ w. w.column < length pool.old) solved.now.weights }
-    requires find { CanFind node.now.searched.day pool.old desk.old best.old }
-    ensures { HasFound node.now.searched.day pool.old pool.new desk.new best.old best.new }
+    requires find { CanFind node.now.searched.day pool.old workspace.old best.old }
+    ensures { HasFound node.now.searched.day pool.old pool.new workspace.new best.old best.new }
 {
     let day = &node.searched.day;
     if limit(day.instance, best) <= stage.bound || watch.is_over() && best.is_some() {
         return Ok(());
     }
     watch.tell(Work::Rosters);
-    shorten(day, node.cuts, &solved.prices, stage.value, best, desk);
-    offer_kept(alloc, node, solved, stage, desk, pool, best, watch)
+    shorten(day, node.cuts, &solved.prices, stage.value, best, workspace);
+    offer_kept(alloc, node, solved, stage, workspace, pool, best, watch)
 }

@@ -1,21 +1,21 @@
 //! A roster before any node has prices.
 
 ghost use Rattle.std.specs.Prelude.{IfSome};
-ghost use Rattle.master_rows.specs.search_day.Days.{IsDay};
-ghost use Rattle.candidate_rosters.specs.Rosters.{IsGoodRoster};
-ghost use Rattle.search_primal.specs.Desks.{IsDesk, HasTried};
+ghost use Rattle.lp_master_rows.specs.search_day.Days.{IsDay};
+ghost use Rattle.search_candidates.specs.Rosters.{IsGoodRoster};
+ghost use Rattle.search_primal.specs.Workspaces.{IsWorkspace, HasTried};
 
 use crate::completed::offer_begun;
-use crate::desk::SearchDesk;
 use crate::holes::offer_first_holes;
-use candidate_rosters::Roster;
-use master_rows::Day;
-use node_master::Pool;
-use parse_graph::Graph;
-use roster_model::{Instance, List, Memory, Prices};
-use roster_moves::Guide;
+use crate::workspace::SearchWorkspace;
+use lp_master_rows::Day;
+use model_rosters::{Instance, List, Memory, Prices};
+use search_candidates::Roster;
+use search_masters::Pool;
+use search_moves::Guide;
 use search_watch::{Watch, Work};
 use std::alloc::Global;
+use tree_graph::Graph;
 
 /// A day is wide where its graph has so many arcs.
 const WIDE_ARCS: usize = 8_192;
@@ -57,8 +57,8 @@ fn first_guide<'a>(graph: &Graph, prices: &'a Prices) -> Guide<'a> {
     }
 }
 
-/// Offers a roster for which no prices need be known: it is completed from no trees, shift by shift. Its trees
-/// stand in a pool of their own, so that the masters to come know nothing of it.
+/// Offers a roster for which no prices need be known: it is completed from no trees, shift by shift. Its
+/// trees stand in a pool of their own, so that the masters to come know nothing of it.
 ///
 /// # Errors
 ///
@@ -66,21 +66,21 @@ fn first_guide<'a>(graph: &Graph, prices: &'a Prices) -> Guide<'a> {
 pub(crate) fn offer_first<W: Watch>(
     alloc: Global,
     day: &Day,
-    desk: &mut SearchDesk,
+    workspace: &mut SearchWorkspace,
     best: &mut Option<Roster>,
     watch: &W,
 ) -> Result<(), Memory>
     requires day { IsDay day.now }
-    requires desk { IsDesk day.now desk.old }
+    requires workspace { IsWorkspace day.now workspace.old }
     requires good { IfSome best.old (IsGoodRoster day.now.instance.now) }
-    ensures { HasTried day.now desk.new best.old best.new }
+    ensures { HasTried day.now workspace.new best.old best.new }
 {
     watch.tell(Work::First);
-    desk.has_first = true;
+    workspace.has_first = true;
     let prices = missing_prices(alloc, day.instance)?;
     let guide = first_guide(day.graph, &prices);
     let mut pool = Pool::new(alloc);
-    let offered = offer_begun(alloc, day, &[], &guide, desk, &mut pool, best, watch);
+    let offered = offer_begun(alloc, day, &[], &guide, workspace, &mut pool, best, watch);
     drop(pool);
     drop(prices);
     offered
@@ -95,20 +95,20 @@ pub fn offer_early<W: Watch>(
     alloc: Global,
     day: &Day,
     has_old: bool,
-    desk: &mut SearchDesk,
+    workspace: &mut SearchWorkspace,
     best: &mut Option<Roster>,
     watch: &W,
 ) -> Result<(), Memory>
     requires day { IsDay day.now }
-    requires desk { IsDesk day.now desk.old }
+    requires workspace { IsWorkspace day.now workspace.old }
     requires good { IfSome best.old (IsGoodRoster day.now.instance.now) }
-    ensures { HasTried day.now desk.new best.old best.new }
+    ensures { HasTried day.now workspace.new best.old best.new }
 {
     if has_old || !is_wide(day.graph) {
         return Ok(());
     }
-    offer_first(alloc, day, desk, best, watch)?;
-    offer_first_holes(alloc, day, desk, best, watch)
+    offer_first(alloc, day, workspace, best, watch)?;
+    offer_first_holes(alloc, day, workspace, best, watch)
 }
 
 /// Offers a first roster where the first node ends without prices and none was looked for before.
@@ -120,17 +120,17 @@ pub fn offer_late<W: Watch>(
     alloc: Global,
     day: &Day,
     processed: u32,
-    desk: &mut SearchDesk,
+    workspace: &mut SearchWorkspace,
     best: &mut Option<Roster>,
     watch: &W,
 ) -> Result<(), Memory>
     requires day { IsDay day.now }
-    requires desk { IsDesk day.now desk.old }
+    requires workspace { IsWorkspace day.now workspace.old }
     requires good { IfSome best.old (IsGoodRoster day.now.instance.now) }
-    ensures { HasTried day.now desk.new best.old best.new }
+    ensures { HasTried day.now workspace.new best.old best.new }
 {
-    if processed > 0 || desk.has_first {
+    if processed > 0 || workspace.has_first {
         return Ok(());
     }
-    offer_first(alloc, day, desk, best, watch)
+    offer_first(alloc, day, workspace, best, watch)
 }

@@ -1,19 +1,19 @@
 //! Rosters by holes, on wide days.
 
 ghost use Rattle.std.specs.Prelude.{IfOk, IfSome};
-ghost use Rattle.roster_model.specs.SoundInstance.{IsSoundInstance};
-ghost use Rattle.master_rows.specs.search_day.Days.{IsDay};
-ghost use Rattle.candidate_rosters.specs.Rosters.{IsGoodRoster};
-ghost use Rattle.roster_holes.specs.Found.{AreSoundShifts};
-ghost use Rattle.search_primal.specs.Desks.{CanOffer, HasOffered, IsDesk, HasTried};
+ghost use Rattle.model_rosters.specs.SoundInstance.{IsSoundInstance};
+ghost use Rattle.lp_master_rows.specs.search_day.Days.{IsDay};
+ghost use Rattle.search_candidates.specs.Rosters.{IsGoodRoster};
+ghost use Rattle.search_holes.specs.Found.{AreSoundShifts};
+ghost use Rattle.search_primal.specs.Workspaces.{CanOffer, HasOffered, IsWorkspace, HasTried};
 
-use crate::desk::SearchDesk;
 use crate::first::is_wide;
-use candidate_rosters::{Roster, RosterDesk, limit, offer, roster_again};
-use master_rows::Day;
-use node_master::Handover;
-use roster_holes::{HoleSearch, HoleTask};
-use roster_model::{Instance, List, Memory, Prices, Shift};
+use crate::workspace::SearchWorkspace;
+use lp_master_rows::Day;
+use model_rosters::{Instance, List, Memory, Prices, Shift};
+use search_candidates::{Roster, RosterWorkspace, limit, offer, roster_again};
+use search_holes::{HoleSearch, HoleTask};
+use search_masters::Handover;
 use search_watch::{Watch, Work};
 use std::alloc::Global;
 
@@ -113,7 +113,7 @@ fn offer_found(
     alloc: Global,
     instance: &Instance,
     found: &Option<List<Shift>>,
-    rosters: &mut RosterDesk,
+    rosters: &mut RosterWorkspace,
     best: &mut Option<Roster>,
 ) -> Result<bool, Memory>
     requires found { IfSome found.now (AreSoundShifts instance.now) }
@@ -138,22 +138,22 @@ pub(crate) fn offer_holes<W: Watch>(
     alloc: Global,
     day: &Day,
     place: &HolePlace,
-    desk: &mut SearchDesk,
+    workspace: &mut SearchWorkspace,
     best: &mut Option<Roster>,
     watch: &W,
 ) -> Result<bool, Memory>
     requires day { IsDay day.now }
-    requires desk { IsDesk day.now desk.old }
+    requires workspace { IsWorkspace day.now workspace.old }
     requires good { IfSome best.old (IsGoodRoster day.now.instance.now) }
-    ensures { HasTried day.now desk.new best.old best.new }
+    ensures { HasTried day.now workspace.new best.old best.new }
 {
     if !is_wide(day.graph) {
         return Ok(false);
     }
     watch.tell(Work::Rosters);
     let task = task_of(day.instance, place.turn, place.bound, best);
-    let found = found_at_node(alloc, day, &task, place.prices, &mut desk.holes, watch)?;
-    let offered = offer_found(alloc, day.instance, &found, &mut desk.rosters, best);
+    let found = found_at_node(alloc, day, &task, place.prices, &mut workspace.holes, watch)?;
+    let offered = offer_found(alloc, day.instance, &found, &mut workspace.rosters, best);
     drop(found);
     offered
 }
@@ -182,19 +182,19 @@ fn hand_over(
 pub(crate) fn offer_first_holes<W: Watch>(
     alloc: Global,
     day: &Day,
-    desk: &mut SearchDesk,
+    workspace: &mut SearchWorkspace,
     best: &mut Option<Roster>,
     watch: &W,
 ) -> Result<(), Memory>
     requires day { IsDay day.now }
-    requires desk { IsDesk day.now desk.old }
+    requires workspace { IsWorkspace day.now workspace.old }
     requires good { IfSome best.old (IsGoodRoster day.now.instance.now) }
-    ensures { HasTried day.now desk.new best.old best.new }
+    ensures { HasTried day.now workspace.new best.old best.new }
 {
     let task = task_of(day.instance, 0, 0, best);
-    let found = found_first(alloc, day, &task, &mut desk.holes, watch)?;
-    let offered = offer_found(alloc, day.instance, &found, &mut desk.rosters, best);
+    let found = found_first(alloc, day, &task, &mut workspace.holes, watch)?;
+    let offered = offer_found(alloc, day.instance, &found, &mut workspace.rosters, best);
     drop(found);
     offered?;
-    hand_over(alloc, &desk.holes, &mut desk.handover)
+    hand_over(alloc, &workspace.holes, &mut workspace.handover)
 }

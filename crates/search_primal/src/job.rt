@@ -1,7 +1,7 @@
 //! The day that is searched once it is known not to be plainly infeasible, and what is asked there.
 
 use crate::start::Start;
-use master_rows::Day;
+use lp_master_rows::Day;
 
 /// A day that is searched, which is not plainly infeasible.
 #[derive(Clone, Copy, Drop)]

@@ -1,24 +1,24 @@
 //! The best roster made better where there are no prices.
 
 ghost use Rattle.std.specs.Prelude.{◌<◌, All, IfOk, IfSome, length};
-ghost use Rattle.master_rows.specs.search_day.Days.{IsDay};
-ghost use Rattle.search_primal.specs.Desks.{CanFind, HasFound};
+ghost use Rattle.lp_master_rows.specs.search_day.Days.{IsDay};
+ghost use Rattle.search_primal.specs.Workspaces.{CanFind, HasFound};
 
 use crate::completed::{Stage, guide_of, offer_begun};
-use crate::desk::SearchDesk;
 use crate::first::missing_prices;
 use crate::holes::{HolePlace, best_shifts, offer_holes};
 use crate::shortening::keep_all;
-use candidate_rosters::{Roster, limit};
-use master_rows::Day;
-use node_master::{Cause, Pool};
-use roster_model::Memory;
-use roster_moves::add_words;
+use crate::workspace::SearchWorkspace;
+use lp_master_rows::Day;
+use model_rosters::Memory;
+use search_candidates::{Roster, limit};
+use search_masters::{Cause, Pool};
+use search_moves::add_words;
 use search_watch::{Watch, Work};
 use std::alloc::Global;
 
-/// Says whether a roster is looked for at a node with too many rows before which so many were processed: at the
-/// first, and then ever more seldom.
+/// Says whether a roster is looked for at a node with too many rows before which so many were processed: at
+/// the first, and then ever more seldom.
 fn is_due(processed: u32) -> bool {
     processed & processed.saturating_sub(1) == 0
 }
@@ -28,21 +28,21 @@ fn offer_moved<W: Watch>(
     alloc: Global,
     day: &Day,
     stage: &Stage,
-    desk: &mut SearchDesk,
+    workspace: &mut SearchWorkspace,
     pool: &mut Pool,
     best: &mut Option<Roster>,
     watch: &W,
 ) -> Result<(), Memory>
     requires day { IsDay day.now }
-    requires find { CanFind day.now pool.old desk.old best.old }
-    ensures { HasFound day.now pool.old pool.new desk.new best.old best.new }
+    requires find { CanFind day.now pool.old workspace.old best.old }
+    ensures { HasFound day.now pool.old pool.new workspace.new best.old best.new }
 {
     watch.tell(Work::Rosters);
     let begun = add_words(
         alloc,
         day,
         best_shifts(best),
-        &mut desk.pricing.pricer,
+        &mut workspace.pricing.pricer,
         pool,
     )?;
     let Ok(prices) = missing_prices(alloc, day.instance) else {
@@ -55,7 +55,7 @@ fn offer_moved<W: Watch>(
         day,
         begun.as_slice(),
         &guide,
-        desk,
+        workspace,
         pool,
         best,
         watch,
@@ -77,14 +77,14 @@ pub fn offer_without_prices<W: Watch>(
     day: &Day,
     cause: Cause,
     stage: &Stage,
-    desk: &mut SearchDesk,
+    workspace: &mut SearchWorkspace,
     pool: &mut Pool,
     best: &mut Option<Roster>,
     watch: &W,
 ) -> Result<(), Memory>
     requires day { IsDay day.now }
-    requires find { CanFind day.now pool.old desk.old best.old }
-    ensures { HasFound day.now pool.old pool.new desk.new best.old best.new }
+    requires find { CanFind day.now pool.old workspace.old best.old }
+    ensures { HasFound day.now pool.old pool.new workspace.new best.old best.new }
 {
     let Cause::Rows { .. } = cause else {
         return Ok(());
@@ -97,9 +97,9 @@ pub fn offer_without_prices<W: Watch>(
         bound: stage.bound,
         prices: None,
     };
-    if offer_holes(alloc, day, &place, desk, best, watch)? {
+    if offer_holes(alloc, day, &place, workspace, best, watch)? {
         return Ok(());
     }
-    keep_all(day, desk);
-    offer_moved(alloc, day, stage, desk, pool, best, watch)
+    keep_all(day, workspace);
+    offer_moved(alloc, day, stage, workspace, pool, best, watch)
 }

@@ -2,11 +2,11 @@
 
 ghost use Rattle.std.specs.Prelude.{◌<◌, All, length};
 ghost use Rattle.tree_pool.specs.Pools.{IsPool};
-ghost use Rattle.search_primal.specs.Desks.{CanOffer, HasOffered};
+ghost use Rattle.search_primal.specs.Workspaces.{CanOffer, HasOffered};
 
-use candidate_rosters::{Roster, RosterDesk, limit, offer, roster_of};
-use node_master::Pool;
-use roster_model::{Cell, Instance, Memory, penalty};
+use model_rosters::{Cell, Instance, Memory, penalty};
+use search_candidates::{Roster, RosterWorkspace, limit, offer, roster_of};
+use search_masters::Pool;
 use std::alloc::Global;
 
 /// Says whether the word of a tree works at a cell.
@@ -59,7 +59,7 @@ pub(crate) fn offer_trees(
     instance: &Instance,
     columns: &[usize],
     pool: &Pool,
-    rosters: &mut RosterDesk,
+    rosters: &mut RosterWorkspace,
     best: &mut Option<Roster>,
 ) -> Result<(), Memory>
     requires columns { All (λ c. c < length pool.now) columns.now }

@@ -1,19 +1,19 @@
 //! The roster of an old certificate, offered before the first turn; its trees go into the pool.
 
 ghost use Rattle.std.specs.Prelude.{◌≤◌, OnOk, length};
-ghost use Rattle.roster_model.specs.Folds.{Each};
-ghost use Rattle.certificates.specs.Sound.{IsSoundShift};
-ghost use Rattle.search_primal.specs.Desks.{CanOffer, HasOffered, CanFind, HasFound};
+ghost use Rattle.model_rosters.specs.Folds.{Each};
+ghost use Rattle.check_certificates.specs.Sound.{IsSoundShift};
+ghost use Rattle.search_primal.specs.Workspaces.{CanOffer, HasOffered, CanFind, HasFound};
 ghost use Rattle.search_primal.specs.Jobs.{IsJob, ReachesStart};
 ghost use Rattle.search_primal.specs.OldRosters.{ReachesOld};
 
-use crate::desk::SearchDesk;
 use crate::job::Job;
 use crate::old_splits::OldSplits;
-use candidate_rosters::{Roster, RosterDesk, offer, roster_again};
-use node_master::Pool;
-use roster_model::{Instance, Memory, Shift};
-use roster_moves::add_words;
+use crate::workspace::SearchWorkspace;
+use model_rosters::{Instance, Memory, Shift};
+use search_candidates::{Roster, RosterWorkspace, offer, roster_again};
+use search_masters::Pool;
+use search_moves::add_words;
 use std::alloc::Global;
 
 /// Offers the roster of old shifts, at their prices on the day, and says whether there are some and they are
@@ -26,7 +26,7 @@ fn offer_shifts(
     alloc: Global,
     instance: &Instance,
     shifts: &[Shift],
-    rosters: &mut RosterDesk,
+    rosters: &mut RosterWorkspace,
     best: &mut Option<Roster>,
 ) -> Result<bool, Memory>
     requires shifts { Each (IsSoundShift instance.now) shifts.now }
@@ -51,25 +51,25 @@ fn offer_shifts(
 pub fn offer_start(
     alloc: Global,
     job: &Job,
-    desk: &mut SearchDesk,
+    workspace: &mut SearchWorkspace,
     pool: &mut Pool,
     best: &mut Option<Roster>,
 ) -> Result<bool, Memory>
     requires job { IsJob job.now }
-    requires find { CanFind job.now.searched.day pool.old desk.old best.old }
+    requires find { CanFind job.now.searched.day pool.old workspace.old best.old }
     ensures reaches { OnOk result (ReachesStart job.now best.new) }
-    ensures found { HasFound job.now.searched.day pool.old pool.new desk.new best.old best.new }
+    ensures found { HasFound job.now.searched.day pool.old pool.new workspace.new best.old best.new }
 {
     let day = &job.searched.day;
     let is_allowed = offer_shifts(
         alloc,
         day.instance,
         job.start.shifts,
-        &mut desk.rosters,
+        &mut workspace.rosters,
         best,
     )?;
-    desk.splits.old = OldSplits::of(alloc, job.start.nodes)?;
-    let pricer = &mut desk.pricing.pricer;
+    workspace.splits.old = OldSplits::of(alloc, job.start.nodes)?;
+    let pricer = &mut workspace.pricing.pricer;
     add_words(alloc, day, job.start.shifts, pricer, pool)?;
     Ok(is_allowed)
 }

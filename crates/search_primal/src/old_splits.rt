@@ -1,11 +1,11 @@
 //! The splits of an old certificate by the paths that they stand at.
 
-use certificates::Node;
-use node_master::Pool;
-use parse_graph::Graph;
-use roster_model::{ArcKey, Cut, Memory, Side};
-use split_probes::Share;
+use check_certificates::Node;
+use model_rosters::{ArcKey, Cut, Memory, Side};
+use search_masters::Pool;
+use search_strong_branching::Share;
 use std::alloc::Global;
+use tree_graph::Graph;
 
 /// The weight 1 of a share.
 const ONE: i64 = 4_294_967_296;

@@ -1,8 +1,8 @@
 //! A node that leaves some arc more than one count.
 
 use crate::job::SearchedDay;
-use arc_counts::ArcBox;
-use roster_model::Cut;
+use model_rosters::Cut;
+use search_arc_counts::ArcBox;
 
 /// A node that leaves some arc more than one count.
 #[derive(Clone, Copy, Drop)]

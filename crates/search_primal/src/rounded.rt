@@ -1,16 +1,16 @@
 //! Weights in whole parts, and rosters of them.
 
 ghost use Rattle.std.specs.Prelude.{ℕ, pos, ◌≤◌, ◌<◌, ◌<ℤ◌, All, IfOk, OnOk, length};
-ghost use Rattle.roster_model.specs.SoundInstance.{IsSoundInstance};
+ghost use Rattle.model_rosters.specs.SoundInstance.{IsSoundInstance};
 ghost use Rattle.tree_pool.specs.Pools.{IsPool};
-ghost use Rattle.search_primal.specs.Desks.{CanOffer, HasOffered};
+ghost use Rattle.search_primal.specs.Workspaces.{CanOffer, HasOffered};
 ghost use Rattle.search_primal.specs.Rounded.{AreFewer};
 
 use crate::offered::offer_trees;
-use candidate_rosters::{Roster, RosterDesk};
-use fraction::Frac;
-use node_master::{Pool, Weight};
-use roster_model::{Instance, List, Memory};
+use lp_fractions::Frac;
+use model_rosters::{Instance, List, Memory};
+use search_candidates::{Roster, RosterWorkspace};
+use search_masters::{Pool, Weight};
 use std::alloc::Global;
 
 /// In how many parts a fraction of a weight is told.
@@ -150,7 +150,7 @@ pub fn offer_rounded(
     instance: &Instance,
     weights: &[Weight],
     pool: &Pool,
-    rosters: &mut RosterDesk,
+    rosters: &mut RosterWorkspace,
     best: &mut Option<Roster>,
 ) -> Result<(), Memory>
     requires pool { IsPool instance.now.grammar pool.now }

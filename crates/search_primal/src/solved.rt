@@ -3,8 +3,8 @@
 ghost use Rattle.std.specs.Prelude.{◌≡◌};
 ghost use Rattle.search_primal.specs.Solutions.{outcome_of};
 
-use node_master::{Cause, NodeEnd, Solution, Weight};
-use roster_model::{List, Prices};
+use model_rosters::{List, Prices};
+use search_masters::{Cause, NodeEnd, Solution, Weight};
 
 /// What is known of a node whose master was solved.
 #[derive(Drop)]

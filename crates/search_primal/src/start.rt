@@ -2,8 +2,8 @@
 
 ghost use Rattle.std.specs.Prelude.{◌≡◌, []};
 
-use certificates::Node;
-use roster_model::Shift;
+use check_certificates::Node;
+use model_rosters::Shift;
 
 /// What a search begins with of an old certificate, of this day or of another one.
 #[derive(Clone, Copy, Drop)]

@@ -3,22 +3,22 @@ use Rattle.std.proofs.Common.{◌≡◌, ℕ, arith, ◌+◌, ◌≤◌, ◌<◌
 use Rattle.std.specs.Prelude.{◌≢◌, nat_lt}
 use Rattle.std.proofs.lemmas.Bool.{lt-ltb}
 use Rattle.std.proofs.lemmas.Option.{none-some}
-use Rattle.roster_model.specs.declared.grammar.ArcKey.{ArcKey}
-use Rattle.roster_model.specs.declared.instance.Cut.{Cut}
-use Rattle.roster_model.specs.declared.instance.Prices.{Prices}
-use Rattle.roster_model.specs.Cuts.{base_cuts}
-use Rattle.roster_model.specs.Folds.{count}
-use Rattle.certificates.specs.declared.cert.Node.TheVariants.{Priced, Pinned}
-use Rattle.certificates.specs.Nodes.{low_cut, high_cut, visits}
-use Rattle.bound_laws.specs.master_laws.Rows.{rows_of}
-use Rattle.certificates.specs.growing_laws.Grown.{Grown, tip, fork, Leaf, fresh, valued, fixed, Own, OnTips, raised, tip_bound, proof_of, put}
-use Rattle.certificates.specs.growing_laws.Boxes.{IsOpenLeaf}
-use Rattle.certificates.specs.growing_laws.Opens.{Entry, IsEntryOf}
-use Rattle.certificates.specs.growing_laws.States.{IsTip, IsSplit}
-use Rattle.certificates.proofs.growing_laws.GrownLemmas.{TipFact}
-use Rattle.open_nodes.specs.declared.leaf.Plan.{Plan}
-use Rattle.open_nodes.specs.declared.leaf.OpenLeaf.{OpenLeaf}
-use Rattle.open_nodes.specs.Queues.{SameLeaves}
+use Rattle.model_rosters.specs.declared.grammar.ArcKey.{ArcKey}
+use Rattle.model_rosters.specs.declared.instance.Cut.{Cut}
+use Rattle.model_rosters.specs.declared.instance.Prices.{Prices}
+use Rattle.model_rosters.specs.Cuts.{base_cuts}
+use Rattle.model_rosters.specs.Folds.{count}
+use Rattle.check_certificates.specs.declared.cert.Node.TheVariants.{Priced, Pinned}
+use Rattle.check_certificates.specs.Nodes.{low_cut, high_cut, visits}
+use Rattle.law_bounds.specs.master_laws.Rows.{rows_of}
+use Rattle.check_certificates.specs.growing_laws.Grown.{Grown, tip, fork, Leaf, fresh, valued, fixed, Own, OnTips, raised, tip_bound, proof_of, put}
+use Rattle.check_certificates.specs.growing_laws.Boxes.{IsOpenLeaf}
+use Rattle.check_certificates.specs.growing_laws.Opens.{Entry, IsEntryOf}
+use Rattle.check_certificates.specs.growing_laws.States.{IsTip, IsSplit}
+use Rattle.check_certificates.proofs.growing_laws.GrownLemmas.{TipFact}
+use Rattle.search_open_nodes.specs.declared.leaf.Plan.{Plan}
+use Rattle.search_open_nodes.specs.declared.leaf.OpenLeaf.{OpenLeaf}
+use Rattle.search_open_nodes.specs.Queues.{SameLeaves}
 use Rattle.search_tree.specs.Views.{TreeView, Site, IsLeafAt, entry_of}
 use Rattle.search_tree.specs.Trees.{last_count, is_too_long, HasPlan}
 use Rattle.search_tree.specs.Steps.{forked, marked, IsHalfOf}

@@ -1,21 +1,21 @@
 -- A leaf in hand that shows something or is split keeps what is known of the tree.
 use Rattle.std.proofs.Common.{◌≡◌, ℕ, arith, ◌+◌, ◌≤◌, ◌<◌, max, cond, Option, List, [], ◌∷◌, ◌++◌, length, refl, ap, sym, subst, ◌∙◌, inl, inr}
 use Rattle.std.specs.Prelude.{◌≢◌}
-use Rattle.roster_model.specs.declared.grammar.ArcKey.{ArcKey}
-use Rattle.roster_model.specs.declared.instance.Cut.{Cut}
-use Rattle.roster_model.specs.Cuts.{base_cuts}
-use Rattle.roster_model.specs.Folds.{count}
-use Rattle.certificates.specs.declared.cert.Node.{Node}
-use Rattle.certificates.specs.declared.cert.Node.TheVariants.{Split}
-use Rattle.certificates.specs.Nodes.{visits}
-use Rattle.certificates.specs.growing_laws.Grown.{Grown, tip, fork, Leaf, fresh, Own, raised, tip_bound, leaf_value, leaf_busy, proof_of, prices_of, put, unpriced}
-use Rattle.certificates.specs.declared.growing_laws.seat.Seat.{Seat}
-use Rattle.certificates.specs.growing_laws.Boxes.{IsOpenLeaf}
-use Rattle.certificates.specs.growing_laws.Opens.{Entry}
-use Rattle.certificates.specs.growing_laws.Seats.{leaf_node, IsLeafSeat, seat_at}
-use Rattle.certificates.specs.growing_laws.States.{IsTip, IsLeaf, IsSplit, IsGraft}
-use Rattle.open_nodes.specs.declared.leaf.OpenLeaf.{OpenLeaf}
-use Rattle.open_nodes.specs.Queues.{SameLeaves}
+use Rattle.model_rosters.specs.declared.grammar.ArcKey.{ArcKey}
+use Rattle.model_rosters.specs.declared.instance.Cut.{Cut}
+use Rattle.model_rosters.specs.Cuts.{base_cuts}
+use Rattle.model_rosters.specs.Folds.{count}
+use Rattle.check_certificates.specs.declared.cert.Node.{Node}
+use Rattle.check_certificates.specs.declared.cert.Node.TheVariants.{Split}
+use Rattle.check_certificates.specs.Nodes.{visits}
+use Rattle.check_certificates.specs.growing_laws.Grown.{Grown, tip, fork, Leaf, fresh, Own, raised, tip_bound, leaf_value, leaf_busy, proof_of, prices_of, put, unpriced}
+use Rattle.check_certificates.specs.declared.growing_laws.seat.Seat.{Seat}
+use Rattle.check_certificates.specs.growing_laws.Boxes.{IsOpenLeaf}
+use Rattle.check_certificates.specs.growing_laws.Opens.{Entry}
+use Rattle.check_certificates.specs.growing_laws.Seats.{leaf_node, IsLeafSeat, seat_at}
+use Rattle.check_certificates.specs.growing_laws.States.{IsTip, IsLeaf, IsSplit, IsGraft}
+use Rattle.search_open_nodes.specs.declared.leaf.OpenLeaf.{OpenLeaf}
+use Rattle.search_open_nodes.specs.Queues.{SameLeaves}
 use Rattle.search_tree.specs.Views.{TreeView, Site, IsLeafAt, entry_of}
 use Rattle.search_tree.specs.Trees.{last_count, is_too_long, IsTree}
 use Rattle.search_tree.specs.Steps.{split_of, forked, marked, IsHalfOf}

@@ -1,20 +1,20 @@
 -- A search's first tree, and its leaf of least bound.
 use Rattle.std.proofs.Common.{◌≡◌, ℕ, arith, ◌+◌, ◌≤◌, ◌<◌, true, false, cond, None, List, [], ◌∷◌, length, map, refl, ap, sym, subst, ◌∙◌, ◌⊎◌, inl, inr}
 use Rattle.std.specs.Prelude.{◌≢◌, nat_eq}
-use Rattle.roster_model.specs.declared.instance.Cut.{Cut}
-use Rattle.roster_model.specs.Cuts.{base_cuts}
-use Rattle.roster_model.specs.Folds.{Each}
-use Rattle.roster_model.proofs.EachLemmas.{Each-weaker, Each-at, Each-in}
-use Rattle.certificates.specs.growing_laws.Grown.{Grown, tip, Leaf, fresh, valued, fixed, OnTips, tip_bound}
-use Rattle.certificates.specs.growing_laws.Boxes.{IsOpenLeaf}
-use Rattle.certificates.specs.growing_laws.Opens.{Entry, opens, SameEntries}
-use Rattle.certificates.specs.growing_laws.Seats.{HoldTree}
-use Rattle.certificates.specs.growing_laws.States.{IsTip, IsLeaf}
-use Rattle.certificates.proofs.growing_laws.GrownLemmas.{told}
-use Rattle.certificates.proofs.growing_laws.OpensLemmas.{opens-least}
-use Rattle.certificates.proofs.growing_laws.StatesLemmas.{growing-raised, tips-both}
-use Rattle.open_nodes.specs.declared.leaf.OpenLeaf.{OpenLeaf}
-use Rattle.open_nodes.specs.Queues.{SameLeaves}
+use Rattle.model_rosters.specs.declared.instance.Cut.{Cut}
+use Rattle.model_rosters.specs.Cuts.{base_cuts}
+use Rattle.model_rosters.specs.Folds.{Each}
+use Rattle.model_rosters.proofs.EachLemmas.{Each-weaker, Each-at, Each-in}
+use Rattle.check_certificates.specs.growing_laws.Grown.{Grown, tip, Leaf, fresh, valued, fixed, OnTips, tip_bound}
+use Rattle.check_certificates.specs.growing_laws.Boxes.{IsOpenLeaf}
+use Rattle.check_certificates.specs.growing_laws.Opens.{Entry, opens, SameEntries}
+use Rattle.check_certificates.specs.growing_laws.Seats.{HoldTree}
+use Rattle.check_certificates.specs.growing_laws.States.{IsTip, IsLeaf}
+use Rattle.check_certificates.proofs.growing_laws.GrownLemmas.{told}
+use Rattle.check_certificates.proofs.growing_laws.OpensLemmas.{opens-least}
+use Rattle.check_certificates.proofs.growing_laws.StatesLemmas.{growing-raised, tips-both}
+use Rattle.search_open_nodes.specs.declared.leaf.OpenLeaf.{OpenLeaf}
+use Rattle.search_open_nodes.specs.Queues.{SameLeaves}
 use Rattle.search_tree.specs.Views.{TreeView, Site, entry_of}
 use Rattle.search_tree.specs.Trees.{IsPlanned, IsTree}
 use Rattle.search_tree.specs.Steps.{half_seat}

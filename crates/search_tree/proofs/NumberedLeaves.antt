@@ -3,15 +3,15 @@ use Rattle.std.proofs.Common.{◌≡◌, ℕ, zero, suc, arith, ◌+◌, ◌*◌
 use Rattle.std.specs.Prelude.{◌≢◌, nat_eq}
 use Rattle.std.proofs.lemmas.Bool.{eq-eqb}
 use Rattle.std.proofs.lemmas.List.{length-append}
-use Rattle.roster_model.specs.declared.instance.Cut.{Cut}
-use Rattle.roster_model.specs.Folds.{count, Each}
-use Rattle.roster_model.proofs.EachLemmas.{Each-append, each_parts}
-use Rattle.roster_model.proofs.arc_laws.FoldsLemmas.{count-append}
-use Rattle.certificates.specs.Nodes.{low_cut, high_cut, Visit, visits}
-use Rattle.certificates.specs.growing_laws.Grown.{Grown, tip, fork, Leaf, fresh, valued, fixed, OnTips, raised, leaf_proof, proof_of, numbers, put, times, busy, missed}
-use Rattle.certificates.specs.growing_laws.Opens.{Entry, opens}
-use Rattle.certificates.specs.growing_laws.Seats.{AtLeaf, IsUnsplit}
-use Rattle.certificates.proofs.growing_laws.GrownLemmas.{TipFact, told}
+use Rattle.model_rosters.specs.declared.instance.Cut.{Cut}
+use Rattle.model_rosters.specs.Folds.{count, Each}
+use Rattle.model_rosters.proofs.EachLemmas.{Each-append, each_parts}
+use Rattle.model_rosters.proofs.arc_laws.FoldsLemmas.{count-append}
+use Rattle.check_certificates.specs.Nodes.{low_cut, high_cut, Visit, visits}
+use Rattle.check_certificates.specs.growing_laws.Grown.{Grown, tip, fork, Leaf, fresh, valued, fixed, OnTips, raised, leaf_proof, proof_of, numbers, put, times, busy, missed}
+use Rattle.check_certificates.specs.growing_laws.Opens.{Entry, opens}
+use Rattle.check_certificates.specs.growing_laws.Seats.{AtLeaf, IsUnsplit}
+use Rattle.check_certificates.proofs.growing_laws.GrownLemmas.{TipFact, told}
 use Rattle.search_tree.specs.Views.{IsLeafAt}
 
 pub is-one : (k n : ℕ) → k ≡ n → ◌≡◌ {A = ℕ} (cond (nat_eq k n) 1 0) 1

@@ -1,25 +1,25 @@
 -- What is known of the tree is kept where a new one stands in place of the leaf in hand.
 use Rattle.std.proofs.Common.{◌≡◌, ℕ, zero, suc, arith, ◌+◌, ◌*◌, ◌≤◌, ◌<◌, true, false, cond, List, [], ◌∷◌, ◌++◌, length, map, refl, ap, sym, subst, ◌∙◌, ◌⊎◌, inl, inr}
 use Rattle.std.specs.Prelude.{◌≢◌, nat_eq}
-use Rattle.roster_model.specs.declared.instance.Cut.{Cut}
-use Rattle.roster_model.specs.declared.instance.Instance.{Instance}
-use Rattle.roster_model.specs.Cuts.{base_cuts}
-use Rattle.roster_model.specs.Folds.{count, Each, In}
-use Rattle.roster_model.proofs.EachLemmas.{Each-weaker, Each-append, Each-at, Each-in}
-use Rattle.certificates.specs.Nodes.{visits}
-use Rattle.certificates.specs.growing_laws.Grown.{Grown, tip, fork, Leaf, fresh, valued, fixed, OnTips, tip_bound, leaf_busy, leaf_proof, proof_of, numbers, put, times, busy, missed}
-use Rattle.certificates.specs.declared.growing_laws.seat.Seat.{Seat}
-use Rattle.certificates.specs.growing_laws.Boxes.{IsOpenLeaf}
-use Rattle.certificates.specs.growing_laws.Opens.{Entry, leaf_entries, opens, SameEntries}
-use Rattle.certificates.specs.growing_laws.Seats.{AreSeated, HoldTree, SameLinks, number, seat_at}
-use Rattle.certificates.specs.growing_laws.States.{IsTip, IsGraft}
-use Rattle.certificates.proofs.growing_laws.GrownLemmas.{TipFact, told, tips-map, put-tips}
-use Rattle.certificates.proofs.growing_laws.NodeCounts.{put-busy, put-missed}
-use Rattle.certificates.proofs.growing_laws.OpensLemmas.{put-opens}
-use Rattle.certificates.proofs.growing_laws.SeatsLemmas.{seated-put, put-numbers, number-put}
-use Rattle.certificates.proofs.growing_laws.StatesLemmas.{growing-put, tips-both}
-use Rattle.open_nodes.specs.declared.leaf.OpenLeaf.{OpenLeaf}
-use Rattle.open_nodes.specs.Queues.{SameLeaves}
+use Rattle.model_rosters.specs.declared.instance.Cut.{Cut}
+use Rattle.model_rosters.specs.declared.instance.Instance.{Instance}
+use Rattle.model_rosters.specs.Cuts.{base_cuts}
+use Rattle.model_rosters.specs.Folds.{count, Each, In}
+use Rattle.model_rosters.proofs.EachLemmas.{Each-weaker, Each-append, Each-at, Each-in}
+use Rattle.check_certificates.specs.Nodes.{visits}
+use Rattle.check_certificates.specs.growing_laws.Grown.{Grown, tip, fork, Leaf, fresh, valued, fixed, OnTips, tip_bound, leaf_busy, leaf_proof, proof_of, numbers, put, times, busy, missed}
+use Rattle.check_certificates.specs.declared.growing_laws.seat.Seat.{Seat}
+use Rattle.check_certificates.specs.growing_laws.Boxes.{IsOpenLeaf}
+use Rattle.check_certificates.specs.growing_laws.Opens.{Entry, leaf_entries, opens, SameEntries}
+use Rattle.check_certificates.specs.growing_laws.Seats.{AreSeated, HoldTree, SameLinks, number, seat_at}
+use Rattle.check_certificates.specs.growing_laws.States.{IsTip, IsGraft}
+use Rattle.check_certificates.proofs.growing_laws.GrownLemmas.{TipFact, told, tips-map, put-tips}
+use Rattle.check_certificates.proofs.growing_laws.NodeCounts.{put-busy, put-missed}
+use Rattle.check_certificates.proofs.growing_laws.OpensLemmas.{put-opens}
+use Rattle.check_certificates.proofs.growing_laws.SeatsLemmas.{seated-put, put-numbers, number-put}
+use Rattle.check_certificates.proofs.growing_laws.StatesLemmas.{growing-put, tips-both}
+use Rattle.search_open_nodes.specs.declared.leaf.OpenLeaf.{OpenLeaf}
+use Rattle.search_open_nodes.specs.Queues.{SameLeaves}
 use Rattle.search_tree.specs.Views.{TreeView, Site, IsLeafAt, entry_of}
 use Rattle.search_tree.specs.Trees.{last_count, is_too_long, HasPlan, IsPlanned, IsTree}
 use Rattle.search_tree.proofs.NumberedLeaves.{at-leaf, only-tips, only-leaf, put-length, put-each, put-visits, unsplit-once, is-one, is-none}

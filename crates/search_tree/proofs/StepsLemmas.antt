@@ -2,16 +2,16 @@
 use Rattle.std.proofs.Common.{◌≡◌, ℕ, arith, ◌+◌, ◌≤◌, ◌<◌, true, false, cond, Option, List, [], ◌∷◌, ◌++◌, length, slice_set, refl, ap, sym, subst, ◌∙◌, ◌⊎◌, inl, inr}
 use Rattle.std.specs.Prelude.{◌≢◌, nat_eq}
 use Rattle.std.proofs.lemmas.List.{get_or-set_same, get_or-set_other, get_or_append_left, get_or-append-add, length-set, length-append}
-use Rattle.roster_model.specs.declared.grammar.ArcKey.{ArcKey}
-use Rattle.roster_model.specs.declared.instance.Cut.{Cut}
-use Rattle.roster_model.specs.Folds.{count}
-use Rattle.certificates.specs.declared.cert.Node.{Node}
-use Rattle.certificates.specs.declared.cert.Node.TheVariants.{Split}
-use Rattle.certificates.specs.Nodes.{low_cut, high_cut}
-use Rattle.certificates.specs.growing_laws.Grown.{Grown, tip, fork, Leaf, fresh, Own, raised, leaf_value, prices_of}
-use Rattle.certificates.specs.declared.growing_laws.seat.Seat.{Seat}
-use Rattle.certificates.specs.growing_laws.Seats.{leaf_node, IsLeafSeat, AreSeated, seat_at}
-use Rattle.certificates.proofs.growing_laws.GrownLemmas.{told}
+use Rattle.model_rosters.specs.declared.grammar.ArcKey.{ArcKey}
+use Rattle.model_rosters.specs.declared.instance.Cut.{Cut}
+use Rattle.model_rosters.specs.Folds.{count}
+use Rattle.check_certificates.specs.declared.cert.Node.{Node}
+use Rattle.check_certificates.specs.declared.cert.Node.TheVariants.{Split}
+use Rattle.check_certificates.specs.Nodes.{low_cut, high_cut}
+use Rattle.check_certificates.specs.growing_laws.Grown.{Grown, tip, fork, Leaf, fresh, Own, raised, leaf_value, prices_of}
+use Rattle.check_certificates.specs.declared.growing_laws.seat.Seat.{Seat}
+use Rattle.check_certificates.specs.growing_laws.Seats.{leaf_node, IsLeafSeat, AreSeated, seat_at}
+use Rattle.check_certificates.proofs.growing_laws.GrownLemmas.{told}
 use Rattle.search_tree.specs.Views.{IsLeafAt}
 use Rattle.search_tree.specs.Steps.{split_of, half_seat, split_seat, forked, marked_seat, marked}
 use Rattle.search_tree.proofs.NumberedLeaves.{is-one, is-none}

@@ -3,23 +3,23 @@ use Rattle.std.proofs.Common.{◌≡◌, ℕ, arith, ◌+◌, ◌*◌, ◌≤◌
 use Rattle.std.specs.Prelude.{◌≢◌, ◌&&◌, nat_eq}
 use Rattle.std.proofs.lemmas.Bool.{eqb-true, eq-eqb, false≢true}
 use Rattle.std.proofs.lemmas.List.{length-append}
-use Rattle.roster_model.specs.declared.instance.Cut.{Cut}
-use Rattle.roster_model.specs.declared.instance.Instance.{Instance}
-use Rattle.roster_model.specs.Cuts.{base_cuts}
-use Rattle.roster_model.specs.Folds.{count, In}
-use Rattle.roster_model.proofs.EachLemmas.{Each-weaker, Each-at}
-use Rattle.certificates.specs.Nodes.{low_cut, high_cut, visits}
-use Rattle.parse_graph.specs.Graphs.{GraphView}
-use Rattle.certificates.specs.growing_laws.Grown.{Grown, tip, fork, Leaf, fresh, valued, fixed, SomeTip, raised, tip_bound, busy, numbers, proof_of}
-use Rattle.certificates.specs.growing_laws.Boxes.{IsOpenLeaf}
-use Rattle.certificates.specs.growing_laws.Opens.{Entry, opens, SameEntries, IsEntryOf}
-use Rattle.certificates.specs.growing_laws.Seats.{StandsAt}
-use Rattle.certificates.specs.growing_laws.States.{IsTip}
-use Rattle.certificates.proofs.growing_laws.GrownLemmas.{tips-map, some-both}
-use Rattle.certificates.proofs.growing_laws.StatesLemmas.{growing-raised}
-use Rattle.certificates.proofs.growing_laws.OpensLemmas.{opens-sound}
-use Rattle.open_nodes.specs.declared.leaf.Plan.{Plan}
-use Rattle.open_nodes.specs.declared.leaf.OpenLeaf.{OpenLeaf}
+use Rattle.model_rosters.specs.declared.instance.Cut.{Cut}
+use Rattle.model_rosters.specs.declared.instance.Instance.{Instance}
+use Rattle.model_rosters.specs.Cuts.{base_cuts}
+use Rattle.model_rosters.specs.Folds.{count, In}
+use Rattle.model_rosters.proofs.EachLemmas.{Each-weaker, Each-at}
+use Rattle.check_certificates.specs.Nodes.{low_cut, high_cut, visits}
+use Rattle.tree_graph.specs.Graphs.{GraphView}
+use Rattle.check_certificates.specs.growing_laws.Grown.{Grown, tip, fork, Leaf, fresh, valued, fixed, SomeTip, raised, tip_bound, busy, numbers, proof_of}
+use Rattle.check_certificates.specs.growing_laws.Boxes.{IsOpenLeaf}
+use Rattle.check_certificates.specs.growing_laws.Opens.{Entry, opens, SameEntries, IsEntryOf}
+use Rattle.check_certificates.specs.growing_laws.Seats.{StandsAt}
+use Rattle.check_certificates.specs.growing_laws.States.{IsTip}
+use Rattle.check_certificates.proofs.growing_laws.GrownLemmas.{tips-map, some-both}
+use Rattle.check_certificates.proofs.growing_laws.StatesLemmas.{growing-raised}
+use Rattle.check_certificates.proofs.growing_laws.OpensLemmas.{opens-sound}
+use Rattle.search_open_nodes.specs.declared.leaf.Plan.{Plan}
+use Rattle.search_open_nodes.specs.declared.leaf.OpenLeaf.{OpenLeaf}
 use Rattle.search_tree.specs.Views.{IsLeafAt, entry_of}
 use Rattle.search_tree.specs.Trees.{last_count, is_too_long, HasPlan, IsPlanned}
 use Rattle.search_tree.specs.Laws.{LimitFalls, CountRises, LeafInHand, FewSeats, ShortPaths}

@@ -2,19 +2,19 @@
 use Rattle.std.proofs.Common.{◌≡◌, ℕ, arith, ◌+◌, ◌≤◌, Bool, true, false, cond, Option, None, Some, List, [], ◌∷◌, ◌++◌, map, refl, ap, sym, subst, ◌∙◌, inl, inr}
 use Rattle.std.specs.Prelude.{◌≢◌, ◌&&◌, nat_eq}
 use Rattle.std.proofs.lemmas.Bool.{eqb-true, eq-eqb, false≢true}
-use Rattle.roster_model.specs.declared.instance.Cut.{Cut}
-use Rattle.roster_model.specs.Folds.{count, Each, In}
-use Rattle.roster_model.proofs.EachLemmas.{Each-at, Each-in}
-use Rattle.certificates.specs.Nodes.{low_cut, high_cut}
-use Rattle.certificates.specs.growing_laws.Grown.{Grown, tip, fork, Leaf, OnTips, raised, tip_bound, times}
-use Rattle.certificates.specs.growing_laws.Boxes.{IsOpenLeaf}
-use Rattle.certificates.specs.growing_laws.Opens.{Entry, opens, SameEntries, IsEntryOf}
-use Rattle.certificates.proofs.growing_laws.GrownLemmas.{TipFact}
-use Rattle.certificates.proofs.growing_laws.OpensLemmas.{opens-sound}
-use Rattle.open_nodes.specs.declared.leaf.Plan.{Plan}
-use Rattle.open_nodes.specs.declared.leaf.Kept.{Kept}
-use Rattle.open_nodes.specs.declared.leaf.OpenLeaf.{OpenLeaf}
-use Rattle.open_nodes.specs.Queues.{SameLeaves}
+use Rattle.model_rosters.specs.declared.instance.Cut.{Cut}
+use Rattle.model_rosters.specs.Folds.{count, Each, In}
+use Rattle.model_rosters.proofs.EachLemmas.{Each-at, Each-in}
+use Rattle.check_certificates.specs.Nodes.{low_cut, high_cut}
+use Rattle.check_certificates.specs.growing_laws.Grown.{Grown, tip, fork, Leaf, OnTips, raised, tip_bound, times}
+use Rattle.check_certificates.specs.growing_laws.Boxes.{IsOpenLeaf}
+use Rattle.check_certificates.specs.growing_laws.Opens.{Entry, opens, SameEntries, IsEntryOf}
+use Rattle.check_certificates.proofs.growing_laws.GrownLemmas.{TipFact}
+use Rattle.check_certificates.proofs.growing_laws.OpensLemmas.{opens-sound}
+use Rattle.search_open_nodes.specs.declared.leaf.Plan.{Plan}
+use Rattle.search_open_nodes.specs.declared.leaf.Kept.{Kept}
+use Rattle.search_open_nodes.specs.declared.leaf.OpenLeaf.{OpenLeaf}
+use Rattle.search_open_nodes.specs.Queues.{SameLeaves}
 use Rattle.search_tree.specs.Views.{entry_of}
 use Rattle.search_tree.proofs.TreeLaws.{is_entry, entry-self, entry-in}
 use Rattle.search_tree.proofs.NumberedLeaves.{few-entries}

@@ -1,16 +1,16 @@
 -- What is asked for a step, and what it leads to.
 use Rattle.std.specs.Prelude.{ℕ, ◌≡◌, ◌≤◌, ◌<◌, ◌+◌, ◌⊎◌, IsTrue, Option, None, Some, MatchOption, List, [], ◌∷◌, length, slice_get}
-use Rattle.roster_model.specs.declared.grammar.ArcKey.{ArcKey}
-use Rattle.roster_model.specs.declared.instance.Cut.{Cut}
-use Rattle.roster_model.specs.declared.instance.Prices.{Prices}
-use Rattle.roster_model.specs.Cuts.{base_cuts}
-use Rattle.bound_laws.specs.Pinned.{IsPinned, IsPinnedValue}
-use Rattle.bound_laws.specs.master_laws.Rows.{rows_of}
-use Rattle.bound_laws.specs.master_laws.Sharp.{IsHard}
-use Rattle.certificates.specs.growing_laws.Grown.{Grown, fresh}
-use Rattle.certificates.specs.growing_laws.States.{IsPricedNode, IsLoosePath, IsSplitAt}
-use Rattle.open_nodes.specs.declared.leaf.Plan.{Plan}
-use Rattle.open_nodes.specs.declared.leaf.OpenLeaf.{OpenLeaf}
+use Rattle.model_rosters.specs.declared.grammar.ArcKey.{ArcKey}
+use Rattle.model_rosters.specs.declared.instance.Cut.{Cut}
+use Rattle.model_rosters.specs.declared.instance.Prices.{Prices}
+use Rattle.model_rosters.specs.Cuts.{base_cuts}
+use Rattle.law_bounds.specs.Pinned.{IsPinned, IsPinnedValue}
+use Rattle.law_bounds.specs.master_laws.Rows.{rows_of}
+use Rattle.law_bounds.specs.master_laws.Sharp.{IsHard}
+use Rattle.check_certificates.specs.growing_laws.Grown.{Grown, fresh}
+use Rattle.check_certificates.specs.growing_laws.States.{IsPricedNode, IsLoosePath, IsSplitAt}
+use Rattle.search_open_nodes.specs.declared.leaf.Plan.{Plan}
+use Rattle.search_open_nodes.specs.declared.leaf.OpenLeaf.{OpenLeaf}
 use Rattle.search_tree.specs.Views.{TreeView, Site, IsPlace}
 use Rattle.search_tree.specs.Trees.{last_count, IsPlan, IsTree}
 

@@ -1,10 +1,10 @@
 -- The laws of a search's tree that its steps rest on.
 use Rattle.std.specs.Prelude.{ℕ, ◌≡◌, ◌≤◌, ◌<◌, ◌+◌, ◌*◌, None, List, [], ◌∷◌, length}
-use Rattle.roster_model.specs.declared.instance.Cut.{Cut}
-use Rattle.roster_model.specs.Cuts.{base_cuts}
-use Rattle.certificates.specs.growing_laws.Grown.{Grown, fresh, busy}
-use Rattle.certificates.specs.growing_laws.Seats.{StandsAt}
-use Rattle.open_nodes.specs.declared.leaf.OpenLeaf.{OpenLeaf}
+use Rattle.model_rosters.specs.declared.instance.Cut.{Cut}
+use Rattle.model_rosters.specs.Cuts.{base_cuts}
+use Rattle.check_certificates.specs.growing_laws.Grown.{Grown, fresh, busy}
+use Rattle.check_certificates.specs.growing_laws.Seats.{StandsAt}
+use Rattle.search_open_nodes.specs.declared.leaf.OpenLeaf.{OpenLeaf}
 use Rattle.search_tree.specs.Views.{TreeView, Site, IsPlace}
 use Rattle.search_tree.specs.Trees.{last_count, IsTree}
 

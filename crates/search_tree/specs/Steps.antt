@@ -1,13 +1,13 @@
 -- What a step makes of the seats.
 use Rattle.std.specs.Prelude.{ℕ, ◌≡◌, Some, None, List, [], ◌∷◌, ◌++◌, length, slice_set}
-use Rattle.roster_model.specs.declared.grammar.ArcKey.{ArcKey}
-use Rattle.roster_model.specs.declared.instance.Cut.{Cut}
-use Rattle.certificates.specs.declared.cert.Node.{Node}
-use Rattle.certificates.specs.declared.cert.Node.TheVariants.{Split, Priced, Pinned, Bare}
-use Rattle.certificates.specs.Nodes.{low_cut, high_cut}
-use Rattle.certificates.specs.declared.growing_laws.seat.Seat.{Seat}
-use Rattle.certificates.specs.growing_laws.Seats.{seat_at}
-use Rattle.open_nodes.specs.declared.leaf.OpenLeaf.{OpenLeaf}
+use Rattle.model_rosters.specs.declared.grammar.ArcKey.{ArcKey}
+use Rattle.model_rosters.specs.declared.instance.Cut.{Cut}
+use Rattle.check_certificates.specs.declared.cert.Node.{Node}
+use Rattle.check_certificates.specs.declared.cert.Node.TheVariants.{Split, Priced, Pinned, Bare}
+use Rattle.check_certificates.specs.Nodes.{low_cut, high_cut}
+use Rattle.check_certificates.specs.declared.growing_laws.seat.Seat.{Seat}
+use Rattle.check_certificates.specs.growing_laws.Seats.{seat_at}
+use Rattle.search_open_nodes.specs.declared.leaf.OpenLeaf.{OpenLeaf}
 
 -- a split in place of a leaf, with the prices that the leaf has
 abbrev pub split_of : Node → ArcKey → ℕ → Node

@@ -1,22 +1,22 @@
 -- What a search knows of its tree.
 use Rattle.std.specs.Prelude.{ℕ, ◌≡◌, ◌≢◌, ◌≤◌, ◌+◌, ◌-◌, ◌^◌, ◌&&◌, nat_lt, Bool, Option, None, Some, MatchOption, List, ◌++◌, length, map, slice_get}
-use Rattle.roster_model.specs.declared.grammar.ArcKey.{ArcKey}
-use Rattle.roster_model.specs.declared.instance.Cut.{Cut}
-use Rattle.roster_model.specs.declared.instance.Instance.{Instance}
-use Rattle.roster_model.specs.declared.instance.Prices.{Prices}
-use Rattle.roster_model.specs.Cuts.{base_cuts}
-use Rattle.roster_model.specs.Folds.{count, Each}
-use Rattle.certificates.specs.Kinds.{is_unpriced}
-use Rattle.certificates.specs.Nodes.{Visit, visits}
-use Rattle.parse_graph.specs.Graphs.{GraphView}
-use Rattle.bound_laws.specs.master_laws.Rows.{rows_of}
-use Rattle.bound_laws.specs.near_laws.NearSharp.{IsSharpFor}
-use Rattle.certificates.specs.growing_laws.Grown.{Grown, Leaf, fresh, valued, fixed, OnTips, times, busy, missed, proof_of}
-use Rattle.certificates.specs.growing_laws.States.{IsGrowing, IsSplitAt}
-use Rattle.certificates.specs.growing_laws.Seats.{HoldTree, IsUnsplit}
-use Rattle.certificates.specs.growing_laws.Opens.{opens, SameEntries}
-use Rattle.open_nodes.specs.declared.leaf.Plan.{Plan}
-use Rattle.open_nodes.specs.declared.leaf.OpenLeaf.{OpenLeaf}
+use Rattle.model_rosters.specs.declared.grammar.ArcKey.{ArcKey}
+use Rattle.model_rosters.specs.declared.instance.Cut.{Cut}
+use Rattle.model_rosters.specs.declared.instance.Instance.{Instance}
+use Rattle.model_rosters.specs.declared.instance.Prices.{Prices}
+use Rattle.model_rosters.specs.Cuts.{base_cuts}
+use Rattle.model_rosters.specs.Folds.{count, Each}
+use Rattle.check_certificates.specs.Kinds.{is_unpriced}
+use Rattle.check_certificates.specs.Nodes.{Visit, visits}
+use Rattle.tree_graph.specs.Graphs.{GraphView}
+use Rattle.law_bounds.specs.master_laws.Rows.{rows_of}
+use Rattle.law_bounds.specs.near_laws.NearSharp.{IsSharpFor}
+use Rattle.check_certificates.specs.growing_laws.Grown.{Grown, Leaf, fresh, valued, fixed, OnTips, times, busy, missed, proof_of}
+use Rattle.check_certificates.specs.growing_laws.States.{IsGrowing, IsSplitAt}
+use Rattle.check_certificates.specs.growing_laws.Seats.{HoldTree, IsUnsplit}
+use Rattle.check_certificates.specs.growing_laws.Opens.{opens, SameEntries}
+use Rattle.search_open_nodes.specs.declared.leaf.Plan.{Plan}
+use Rattle.search_open_nodes.specs.declared.leaf.OpenLeaf.{OpenLeaf}
 use Rattle.search_tree.specs.Views.{TreeView, Site, entry_of}
 
 -- the last value of a count of refusals

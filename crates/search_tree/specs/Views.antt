@@ -1,14 +1,14 @@
 -- What a contract sees of the tree of a search.
 use Rattle.std.specs.Prelude.{ℕ, ◌≡◌, ◌⊎◌, Bool, List, [], ◌∷◌, ◌++◌}
-use Rattle.roster_model.specs.declared.instance.Cut.{Cut}
-use Rattle.roster_model.specs.declared.instance.Instance.{Instance}
-use Rattle.certificates.specs.Nodes.{low_cut, high_cut}
-use Rattle.parse_graph.specs.Graphs.{GraphView}
-use Rattle.certificates.specs.declared.growing_laws.seat.Seat.{Seat}
-use Rattle.certificates.specs.growing_laws.Grown.{Grown, tip, fork, Leaf, raised}
-use Rattle.certificates.specs.growing_laws.Opens.{Entry}
-use Rattle.certificates.specs.growing_laws.Seats.{StandsAt}
-use Rattle.open_nodes.specs.declared.leaf.OpenLeaf.{OpenLeaf}
+use Rattle.model_rosters.specs.declared.instance.Cut.{Cut}
+use Rattle.model_rosters.specs.declared.instance.Instance.{Instance}
+use Rattle.check_certificates.specs.Nodes.{low_cut, high_cut}
+use Rattle.tree_graph.specs.Graphs.{GraphView}
+use Rattle.check_certificates.specs.declared.growing_laws.seat.Seat.{Seat}
+use Rattle.check_certificates.specs.growing_laws.Grown.{Grown, tip, fork, Leaf, raised}
+use Rattle.check_certificates.specs.growing_laws.Opens.{Entry}
+use Rattle.check_certificates.specs.growing_laws.Seats.{StandsAt}
+use Rattle.search_open_nodes.specs.declared.leaf.OpenLeaf.{OpenLeaf}
 
 -- a seat for each node, the open leaves that wait, how many nodes are processed, and how many splits
 -- have no prices

@@ -3,8 +3,8 @@
 ghost use Rattle.std.specs.Prelude.{◌≡◌, ◌<◌, ◌++◌, ◌∷◌, [], IfOk, OnOk, length};
 ghost use Rattle.search_tree.specs.Steps.{split_of, half_seat, forked, marked};
 
-use certificates::{Node, Seat};
-use roster_model::{ArcKey, Cut, Memory, Side};
+use check_certificates::{Node, Seat};
+use model_rosters::{ArcKey, Cut, Memory, Side};
 use std::mem;
 
 // Returns a split in place of a leaf, with the prices that the leaf has.

@@ -1,21 +1,21 @@
 //! The tree, and its calls.
 
 ghost use Rattle.std.specs.Prelude.{ℕ, ◌≡◌, ◌≤◌, ◌<◌, [], ◌∷◌, IfNone, IfOk, OnOk, MatchOption, length, List as Items};
-ghost use Rattle.roster_model.specs.Cuts.{base_cuts};
-ghost use Rattle.certificates.specs.Nodes.{preorder};
-ghost use Rattle.certificates.specs.growing_laws.Grown.{Grown, OnTips, tip_bound, proof_of};
-ghost use Rattle.certificates.specs.growing_laws.Boxes.{IsOpenLeaf};
-ghost use Rattle.certificates.specs.growing_laws.Seats.{HoldTree};
-ghost use Rattle.open_nodes.specs.declared.leaf.OpenLeaf.{OpenLeaf as Waiting};
+ghost use Rattle.model_rosters.specs.Cuts.{base_cuts};
+ghost use Rattle.check_certificates.specs.Nodes.{preorder};
+ghost use Rattle.check_certificates.specs.growing_laws.Grown.{Grown, OnTips, tip_bound, proof_of};
+ghost use Rattle.check_certificates.specs.growing_laws.Boxes.{IsOpenLeaf};
+ghost use Rattle.check_certificates.specs.growing_laws.Seats.{HoldTree};
+ghost use Rattle.search_open_nodes.specs.declared.leaf.OpenLeaf.{OpenLeaf as Waiting};
 ghost use Rattle.search_tree.specs.Views.{Site, TreeView};
 ghost use Rattle.search_tree.specs.Trees.{last_count, IsTree};
 ghost use Rattle.search_tree.specs.Steps.{IsHalfOf};
 ghost use Rattle.search_tree.specs.Asked.{AsksSplit, IsHalved, AsksPinned, AsksPriced, AsksFailed, IsProcessed};
 
 use crate::seats::{mark_leaf, push_half, split_leaf};
-use certificates::{Node, Seat, list_nodes};
-use open_nodes::{Kept, OpenLeaf, OpenNodes, Plan};
-use roster_model::{ArcKey, Cut, List, Memory, Prices, Side};
+use check_certificates::{Node, Seat, list_nodes};
+use model_rosters::{ArcKey, Cut, List, Memory, Prices, Side};
+use search_open_nodes::{Kept, OpenLeaf, OpenNodes, Plan};
 use std::alloc::Global;
 use std::marker::Model;
 

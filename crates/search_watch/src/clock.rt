@@ -10,10 +10,11 @@ use std::time::Instant;
 /// How many seconds lie between two notes at least, and before the first one.
 const APART: u64 = 2;
 
-/// A watch by a clock, which notes on standard error how far a search is, and stops it where its time is over.
+/// A watch by a clock, which notes on standard error how far a search is, and stops it where its time is
+/// over.
 ///
-/// It notes a line at most every two seconds, between two turns or within one. A note that is refused is lost.
-/// Where the clock fails, nothing is noted, and a search that is to stop after some seconds stops.
+/// It notes a line at most every two seconds, between two turns or within one. A note that is refused is
+/// lost. Where the clock fails, nothing is noted, and a search that is to stop after some seconds stops.
 #[derive(Drop)]
 pub struct ClockWatch<R: Clock + Eprint + Drop> {
     rt: R,

@@ -18,8 +18,8 @@ pub trait Watch {
     fn goes_on(&mut self, standing: &Standing) -> bool
         ensures { IsTrue (patient self.old) → (result ≡ true) × IsTrue (patient self.new) };
 
-    /// Says whether the search is to stop. It is asked within a turn too, and answers in less than a millionth
-    /// of a second.
+    /// Says whether the search is to stop. It is asked within a turn too, and answers in less than a
+    /// millionth of a second.
     fn is_over(&self) -> bool
         ensures { IsTrue (patient self.now) → result ≡ false };
 

@@ -6,8 +6,8 @@ use Rattle.std.proofs.lemmas.Bool.{and_from, and_parts, or_cases, leb-true, lt-l
 use Rattle.std.proofs.lemmas.Fmt.{decimal_by_steps_wide, length-decimal-le_wide}
 use Rattle.std.specs.Str.{bytes_eq}
 use Rattle.std.proofs.lemmas.Slice.Eq.{bytes_eq-Decides}
-use Rattle.roster_model.specs.Folds.{Each}
-use Rattle.roster_model.specs.Names.{is_code_byte, is_letter, is_name_byte, is_name, is_window_word}
+use Rattle.model_rosters.specs.Folds.{Each}
+use Rattle.model_rosters.specs.Names.{is_code_byte, is_letter, is_name_byte, is_name, is_window_word}
 use Rattle.text_lines.specs.Written.{is_word_byte, is_written, spaced}
 use Rattle.text_lines.proofs.ListLemmas.{all_append, all_weaker}
 

@@ -1,6 +1,6 @@
 -- The name and the code with a number.
 use Rattle.std.specs.Prelude.{ℕ, false, List, [], slice_index_or}
-use Rattle.roster_model.specs.declared.grammar.CodeDef.{CodeDef}
+use Rattle.model_rosters.specs.declared.grammar.CodeDef.{CodeDef}
 
 abbrev pub name_of : List (List ℕ) → ℕ → List ℕ
 name_of ns x = slice_index_or ns x []

@@ -7,7 +7,7 @@ ghost use Rattle.text_lines.specs.Places.{place_text};
 ghost use Rattle.text_lines.specs.Written.{tail};
 
 use crate::number::write_number;
-use roster_model::{List, Memory};
+use model_rosters::{List, Memory};
 
 /// Appends bytes.
 ///

@@ -5,7 +5,7 @@ ghost use Rattle.std.specs.List.{list_all, AllPass};
 ghost use Rattle.std.specs.Fmt.{decimal};
 ghost use Rattle.text_lines.specs.Numbers.{is_digit, is_plain, natural_of, value, number_of, number_text};
 
-use roster_model::{List, Memory};
+use model_rosters::{List, Memory};
 
 /// Why a word is not read as a number.
 #[derive(Clone, Copy, Debug, PartialEq, Eq, Drop)]

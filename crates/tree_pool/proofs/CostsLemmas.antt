@@ -2,17 +2,17 @@
 use Rattle.std.proofs.Common.{◌≡◌, ℕ, ◌+◌, ◌<◌, ◌≤◌, List, [], ◌∷◌, ◌++◌, All, length, take, get_or, ap, ◌∙◌, arith, refl}
 use Rattle.std.proofs.lemmas.List.{take_more}
 use Rattle.std.proofs.lemmas.List.Elements.{All-append, All-cons}
-use Rattle.roster_model.specs.declared.grammar.Grammar.{Grammar}
-use Rattle.roster_model.specs.declared.grammar.Step.{Step}
-use Rattle.roster_model.specs.declared.grammar.Sym.{Sym}
-use Rattle.roster_model.specs.declared.grammar.Sym.TheVariants.{Code, Name}
-use Rattle.roster_model.specs.Arcs.{used_rules, rule_cost}
-use Rattle.roster_model.specs.Folds.{sum_n}
-use Rattle.roster_model.specs.Sound.{IsSound}
-use Rattle.roster_model.specs.Trees.{Parts, done, letter, uses, Derive, IsDayTree, steps}
-use Rattle.roster_model.proofs.CostBounds.{uses-le}
-use Rattle.roster_model.proofs.arc_laws.FoldsLemmas.{sum_n-append}
-use Rattle.roster_model.proofs.tree_laws.Bounds.{few-steps}
+use Rattle.model_rosters.specs.declared.grammar.Grammar.{Grammar}
+use Rattle.model_rosters.specs.declared.grammar.Step.{Step}
+use Rattle.model_rosters.specs.declared.grammar.Sym.{Sym}
+use Rattle.model_rosters.specs.declared.grammar.Sym.TheVariants.{Code, Name}
+use Rattle.model_rosters.specs.Arcs.{used_rules, rule_cost}
+use Rattle.model_rosters.specs.Folds.{sum_n}
+use Rattle.model_rosters.specs.Sound.{IsSound}
+use Rattle.model_rosters.specs.Trees.{Parts, done, letter, uses, Derive, IsDayTree, steps}
+use Rattle.model_rosters.proofs.CostBounds.{uses-le}
+use Rattle.model_rosters.proofs.arc_laws.FoldsLemmas.{sum_n-append}
+use Rattle.model_rosters.proofs.tree_laws.Bounds.{few-steps}
 use Rattle.tree_pool.specs.Costs.{HasRule, step_cost}
 
 pub cost_more : (f : Step → ℕ) (xs : List Step) (i : ℕ) (d : Step) → i < length xs → sum_n f (take (i + 1) xs) ≡ sum_n f (take i xs) + f (get_or xs i d)

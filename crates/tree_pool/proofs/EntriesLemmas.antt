@@ -4,16 +4,16 @@ use Rattle.std.specs.Prelude.{slice_get, option_map}
 use Rattle.std.specs.List.{insert}
 use Rattle.std.proofs.lemmas.List.{length-map, map-append}
 use Rattle.std.proofs.lemmas.Option.{same_Some, slice_get_within, slice_get-map}
-use Rattle.roster_model.specs.declared.grammar.Grammar.{Grammar}
-use Rattle.roster_model.specs.declared.grammar.Step.{Step}
-use Rattle.roster_model.specs.Trees.{Parts}
-use Rattle.roster_model.proofs.tree_laws.ListPushes.{push-here, push-cases}
+use Rattle.model_rosters.specs.declared.grammar.Grammar.{Grammar}
+use Rattle.model_rosters.specs.declared.grammar.Step.{Step}
+use Rattle.model_rosters.specs.Trees.{Parts}
+use Rattle.model_rosters.proofs.tree_laws.ListPushes.{push-here, push-cases}
 use Rattle.tree_pool.specs.declared.entry.Entry.{Entry}
 use Rattle.tree_pool.specs.Entries.{seen, all_seen, TellFacts}
 use Rattle.tree_pool.specs.Orders.{steps_of, IsOrder, IsFoundAt, IsPlaceFor}
 use Rattle.tree_pool.specs.Pools.{PoolTree, IsPool, IsPoolTree, IsGrown, IsAdded}
 use Rattle.tree_pool.proofs.OrdersLemmas.{entry-at, steps-at, found-within, none-there, order-more}
-use Rattle.roster_model.specs.tree_laws.DaySteps.{AreDaySteps}
+use Rattle.model_rosters.specs.tree_laws.DaySteps.{AreDaySteps}
 
 at-seen : (es : List Entry) (n : ℕ) (x : PoolTree) → slice_get (all_seen es) n ≡ Some x → (e : Entry) × (slice_get es n ≡ Some e) × (seen e ≡ x)
 at-seen [] n x h = cc

@@ -1,10 +1,10 @@
 -- What is kept with a tree.
 use Rattle.std.proofs.Common.{◌≡◌, ◌≤◌, List, ◌∷◌, [], All, length, sym, ap, subst, ◌∙◌, arith}
-use Rattle.roster_model.specs.declared.grammar.Grammar.{Grammar}
-use Rattle.roster_model.specs.declared.grammar.Step.{Step}
-use Rattle.roster_model.specs.declared.grammar.Sym.TheVariants.{Name}
-use Rattle.roster_model.specs.Folds.{sum_n}
-use Rattle.roster_model.specs.Sound.{IsSound}
+use Rattle.model_rosters.specs.declared.grammar.Grammar.{Grammar}
+use Rattle.model_rosters.specs.declared.grammar.Step.{Step}
+use Rattle.model_rosters.specs.declared.grammar.Sym.TheVariants.{Name}
+use Rattle.model_rosters.specs.Folds.{sum_n}
+use Rattle.model_rosters.specs.Sound.{IsSound}
 use Rattle.tree_pool.specs.declared.facts.Facts.{Facts}
 use Rattle.tree_pool.specs.Costs.{HasRule, step_cost}
 use Rattle.tree_pool.specs.Entries.{TellFacts}
@@ -12,7 +12,7 @@ use Rattle.tree_pool.specs.Letters.{AreCodesOf}
 use Rattle.tree_pool.specs.Pools.{HasArcsOf, letters_from}
 use Rattle.tree_pool.proofs.CostsLemmas.{cost_steps, steps_ruled, few_steps}
 use Rattle.tree_pool.proofs.LettersLemmas.{letters-are}
-use Rattle.roster_model.specs.tree_laws.DaySteps.{AreDaySteps}
+use Rattle.model_rosters.specs.tree_laws.DaySteps.{AreDaySteps}
 
 module _ (g : Grammar) (sound : IsSound g) (xs : List Step) where
   pub day-ruled : AreDaySteps g xs → All (HasRule g) xs

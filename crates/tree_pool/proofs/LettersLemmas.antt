@@ -1,12 +1,12 @@
 -- The codes of a tree's letters, and the periods that they stand in.
 use Rattle.std.proofs.Common.{◌≡◌, ℕ, suc, ◌+◌, List, [], ◌∷◌, ◌++◌, length, refl, sym, ap, ◌∙◌, arith, length-append, add-one}
-use Rattle.roster_model.specs.declared.grammar.Grammar.{Grammar}
-use Rattle.roster_model.specs.declared.grammar.Sym.{Sym}
-use Rattle.roster_model.specs.declared.grammar.Sym.TheVariants.{Code, Name}
-use Rattle.roster_model.specs.Arcs.{Letter, letters}
-use Rattle.roster_model.specs.Trees.{Parts, done, letter, uses, span_length, Derive}
+use Rattle.model_rosters.specs.declared.grammar.Grammar.{Grammar}
+use Rattle.model_rosters.specs.declared.grammar.Sym.{Sym}
+use Rattle.model_rosters.specs.declared.grammar.Sym.TheVariants.{Code, Name}
+use Rattle.model_rosters.specs.Arcs.{Letter, letters}
+use Rattle.model_rosters.specs.Trees.{Parts, done, letter, uses, span_length, Derive}
 use Rattle.tree_pool.specs.Pools.{letters_from}
-use Rattle.roster_model.specs.tree_laws.Letters.{codes_of}
+use Rattle.model_rosters.specs.tree_laws.Letters.{codes_of}
 
 module _ (g : Grammar) where
   -- each period has one letter

@@ -11,7 +11,7 @@ use Rattle.std.specs.declared.cmp.Ordering.TheVariants.{Less, Equal, Greater}
 use Rattle.std.proofs.lemmas.List.Edits.{length-insert, get_or-insert_below, get_or-insert_at, get_or-insert_above}
 use Rattle.std.proofs.lemmas.List.Elements.{All-cons, Contains-append_right}
 use Rattle.std.proofs.lemmas.List.Sorted.{searchable_from_sorted, IsPermutation-insert, All-permutation, Contains-permutation}
-use Rattle.roster_model.specs.declared.grammar.Step.{Step}
+use Rattle.model_rosters.specs.declared.grammar.Step.{Step}
 use Rattle.tree_pool.specs.declared.entry.Entry.{Entry}
 use Rattle.tree_pool.specs.Orders.{Rank, rank_of, rank_cmp, step_cmp, steps_cmp, steps_of, IsOrder, IsFoundAt, IsPlaceFor}
 use Rattle.tree_pool.proofs.ArcOrderLemmas.{both_equal, less-equal, greater-equal, three_ways, same_number}

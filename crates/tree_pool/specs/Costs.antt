@@ -1,10 +1,10 @@
 -- The costs of steps.
 use Rattle.std.specs.Prelude.{ℕ, ◌≡◌, Some}
-use Rattle.roster_model.specs.declared.grammar.Grammar.{Grammar}
-use Rattle.roster_model.specs.declared.grammar.Rule.{Rule}
-use Rattle.roster_model.specs.declared.grammar.Step.{Step}
-use Rattle.roster_model.specs.Grammar.{rule_at}
-use Rattle.roster_model.specs.Arcs.{rule_cost}
+use Rattle.model_rosters.specs.declared.grammar.Grammar.{Grammar}
+use Rattle.model_rosters.specs.declared.grammar.Rule.{Rule}
+use Rattle.model_rosters.specs.declared.grammar.Step.{Step}
+use Rattle.model_rosters.specs.Grammar.{rule_at}
+use Rattle.model_rosters.specs.Arcs.{rule_cost}
 
 -- the rule of the step exists
 pub record HasRule (g : Grammar) (s : Step) : Type 0 where

@@ -1,8 +1,8 @@
 -- The entries of a pool.
 use Rattle.std.specs.Prelude.{◌≡◌, List, map}
-use Rattle.roster_model.specs.declared.grammar.Grammar.{Grammar}
-use Rattle.roster_model.specs.declared.grammar.Step.{Step}
-use Rattle.roster_model.specs.Trees.{Parts, IsDayTree, steps}
+use Rattle.model_rosters.specs.declared.grammar.Grammar.{Grammar}
+use Rattle.model_rosters.specs.declared.grammar.Step.{Step}
+use Rattle.model_rosters.specs.Trees.{Parts, IsDayTree, steps}
 use Rattle.tree_pool.specs.declared.entry.Entry.{Entry}
 use Rattle.tree_pool.specs.declared.facts.Facts.{Facts}
 use Rattle.tree_pool.specs.Pools.{PoolTree, IsPoolTree}

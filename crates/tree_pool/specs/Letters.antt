@@ -1,10 +1,10 @@
 -- The codes of the letters of a tree, and the walk that gathers them.
 use Rattle.std.specs.Prelude.{ℕ, ◌≡◌, List, ◌++◌}
-use Rattle.roster_model.specs.declared.grammar.Grammar.{Grammar}
-use Rattle.roster_model.specs.declared.grammar.Step.{Step}
-use Rattle.roster_model.specs.declared.grammar.Sym.{Sym}
-use Rattle.roster_model.specs.Trees.{Parts, Derive, IsDayTree, steps}
-use Rattle.roster_model.specs.tree_laws.Letters.{codes_of}
+use Rattle.model_rosters.specs.declared.grammar.Grammar.{Grammar}
+use Rattle.model_rosters.specs.declared.grammar.Step.{Step}
+use Rattle.model_rosters.specs.declared.grammar.Sym.{Sym}
+use Rattle.model_rosters.specs.Trees.{Parts, Derive, IsDayTree, steps}
+use Rattle.model_rosters.specs.tree_laws.Letters.{codes_of}
 
 -- the codes of each tree of the day with these steps
 abbrev pub AreCodesOf : Grammar → List Step → List ℕ → Type 0

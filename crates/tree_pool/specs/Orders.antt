@@ -5,7 +5,7 @@ use Rattle.std.specs.List.Sorted.{IsSortedByKey, IsPartitionPoint}
 use Rattle.std.specs.Ordering.{nat_cmp, ordering_then}
 use Rattle.std.specs.declared.cmp.Ordering.{Ordering}
 use Rattle.std.specs.declared.cmp.Ordering.TheVariants.{Less, Greater}
-use Rattle.roster_model.specs.declared.grammar.Step.{Step}
+use Rattle.model_rosters.specs.declared.grammar.Step.{Step}
 use Rattle.tree_pool.specs.declared.entry.Entry.{Entry}
 
 -- the three numbers of a rule use

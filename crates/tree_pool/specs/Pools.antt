@@ -1,11 +1,11 @@
 -- Pools of trees of the day.
 use Rattle.std.specs.Prelude.{ℕ, ◌≡◌, ◌<◌, ◌⊎◌, ◌++◌, Some, length, List, [], ◌∷◌, slice_get, suc}
-use Rattle.roster_model.specs.declared.grammar.ArcKey.{ArcKey}
-use Rattle.roster_model.specs.declared.grammar.Grammar.{Grammar}
-use Rattle.roster_model.specs.declared.grammar.Step.{Step}
-use Rattle.roster_model.specs.Trees.{Parts, IsDayTree, steps}
-use Rattle.roster_model.specs.Arcs.{Letter, letters, arcs, cost, same_arc}
-use Rattle.roster_model.specs.Folds.{count}
+use Rattle.model_rosters.specs.declared.grammar.ArcKey.{ArcKey}
+use Rattle.model_rosters.specs.declared.grammar.Grammar.{Grammar}
+use Rattle.model_rosters.specs.declared.grammar.Step.{Step}
+use Rattle.model_rosters.specs.Trees.{Parts, IsDayTree, steps}
+use Rattle.model_rosters.specs.Arcs.{Letter, letters, arcs, cost, same_arc}
+use Rattle.model_rosters.specs.Folds.{count}
 
 -- what a contract sees of a tree of the pool: its rule uses in preorder, the codes of its letters by
 -- period, its arcs, and its cost

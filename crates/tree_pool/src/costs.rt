@@ -1,14 +1,14 @@
 //! What a tree costs.
 
 ghost use Rattle.std.specs.Prelude.{◌≡◌, ◌≤◌, All, length};
-ghost use Rattle.roster_model.specs.Folds.{sum_n};
-ghost use Rattle.roster_model.specs.Sound.{IsSound};
+ghost use Rattle.model_rosters.specs.Folds.{sum_n};
+ghost use Rattle.model_rosters.specs.Sound.{IsSound};
 ghost use Rattle.tree_pool.specs.Costs.{HasRule, step_cost};
 
-use roster_model::{Grammar, Step, rule_of};
+use model_rosters::{Grammar, Step, rule_of};
 
-/// Returns the sum of the costs of the rules of some steps, at most 6,303: a tree of 96 periods has at most 191
-/// spans of different parts, and uses each of 33 names at most once on a span. So the sum is below 2^26.
+/// Returns the sum of the costs of the rules of some steps, at most 6,303: a tree of 96 periods has at most
+/// 191 spans of different parts, and uses each of 33 names at most once on a span. So the sum is below 2^26.
 pub fn cost_of(grammar: &Grammar, steps: &[Step]) -> u32
     requires sound { IsSound grammar.now }
     requires rules { All (HasRule grammar.now) steps.now }

@@ -1,13 +1,13 @@
 //! The entry of a tree.
 
 ghost use Rattle.std.specs.Prelude.{◌≡◌, IfOk};
-ghost use Rattle.roster_model.specs.Sound.{IsSound};
+ghost use Rattle.model_rosters.specs.Sound.{IsSound};
 ghost use Rattle.tree_pool.specs.Entries.{TellFacts};
-ghost use Rattle.roster_model.specs.tree_laws.DaySteps.{AreDaySteps};
+ghost use Rattle.model_rosters.specs.tree_laws.DaySteps.{AreDaySteps};
 
 use crate::facts::{Facts, facts_of};
 use crate::tree::Tree;
-use roster_model::{Grammar, List, Memory, Step};
+use model_rosters::{Grammar, List, Memory, Step};
 use std::alloc::Global;
 
 /// A tree of the pool, with what is asked of it often.

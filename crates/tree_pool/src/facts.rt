@@ -1,14 +1,14 @@
 //! What is asked of a tree often.
 
 ghost use Rattle.std.specs.Prelude.{IfOk};
-ghost use Rattle.roster_model.specs.Sound.{IsSound};
-ghost use Rattle.roster_model.specs.tree_laws.DaySteps.{AreDaySteps};
+ghost use Rattle.model_rosters.specs.Sound.{IsSound};
+ghost use Rattle.model_rosters.specs.tree_laws.DaySteps.{AreDaySteps};
 ghost use Rattle.tree_pool.specs.Entries.{TellFacts};
 
 use crate::arcs::SortedArcs;
 use crate::costs::cost_of;
 use crate::letters::codes_of;
-use roster_model::{Grammar, List, Memory, Step};
+use model_rosters::{Grammar, List, Memory, Step};
 use std::alloc::Global;
 
 /// What is asked of a tree often.

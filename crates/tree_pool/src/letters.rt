@@ -1,11 +1,11 @@
 //! The codes of a tree's letters.
 
 ghost use Rattle.std.specs.Prelude.{◌≡◌, IfOk};
-ghost use Rattle.roster_model.specs.Sound.{IsSound};
-ghost use Rattle.roster_model.specs.tree_laws.DaySteps.{AsksParts, AreDaySteps};
+ghost use Rattle.model_rosters.specs.Sound.{IsSound};
+ghost use Rattle.model_rosters.specs.tree_laws.DaySteps.{AsksParts, AreDaySteps};
 ghost use Rattle.tree_pool.specs.Letters.{GivesCodes, AreCodesOf};
 
-use roster_model::{Grammar, List, Memory, Step, Sym, first_and_rest, rule_of};
+use model_rosters::{Grammar, List, Memory, Step, Sym, first_and_rest, rule_of};
 use std::alloc::Global;
 
 /// Returns the codes of the letters of a tree of the day, in their order.

@@ -5,7 +5,7 @@ ghost use Rattle.std.specs.List.{insert};
 ghost use Rattle.tree_pool.specs.Orders.{rank_of, steps_of, steps_cmp, IsOrder, IsFoundAt, IsPlaceFor};
 
 use crate::entry::Entry;
-use roster_model::{List, Memory, Step};
+use model_rosters::{List, Memory, Step};
 use std::cmp::Ordering;
 
 /// What rule uses are sorted by, the first number that differs deciding.

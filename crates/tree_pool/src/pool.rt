@@ -1,18 +1,18 @@
 //! The pool, and its calls.
 
 ghost use Rattle.std.specs.Prelude.{ℕ, ◌≡◌, ◌<◌, ◌≤◌, ◌^◌, Some, [], List as Items, length, slice_get, IfOk, IfErr, IsTrue, ◌↔◌};
-ghost use Rattle.roster_model.specs.declared.grammar.Grammar.{Grammar as Rules};
-ghost use Rattle.roster_model.specs.Sound.{IsSound};
-ghost use Rattle.roster_model.specs.Folds.{count};
-ghost use Rattle.roster_model.specs.Arcs.{same_arc};
+ghost use Rattle.model_rosters.specs.declared.grammar.Grammar.{Grammar as Rules};
+ghost use Rattle.model_rosters.specs.Sound.{IsSound};
+ghost use Rattle.model_rosters.specs.Folds.{count};
+ghost use Rattle.model_rosters.specs.Arcs.{same_arc};
 ghost use Rattle.tree_pool.specs.Entries.{seen};
-ghost use Rattle.roster_model.specs.tree_laws.DaySteps.{AreDaySteps};
+ghost use Rattle.model_rosters.specs.tree_laws.DaySteps.{AreDaySteps};
 ghost use Rattle.tree_pool.specs.Pools.{PoolTree, IsPool, IsGrown, IsAdded};
 
 use crate::entry::{Entry, entry_of};
 use crate::order::{place_of, put};
 use crate::tree::Tree;
-use roster_model::{ArcKey, Grammar, List, Memory, Step};
+use model_rosters::{ArcKey, Grammar, List, Memory, Step};
 use std::alloc::Global;
 use std::marker::Model;
 

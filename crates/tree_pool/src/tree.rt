@@ -1,6 +1,6 @@
 //! A tree by its rule uses.
 
-use roster_model::{List, Step};
+use model_rosters::{List, Step};
 
 /// A tree of the day, by its rule uses in preorder.
 #[derive(Debug, Drop)]

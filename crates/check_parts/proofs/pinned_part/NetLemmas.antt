@@ -5,23 +5,23 @@ use Rattle.std.proofs.lemmas.Int.{ints}
 use Rattle.std.proofs.lemmas.Nat.{mul-le}
 use Rattle.std.proofs.lemmas.Option.{slice_get_within}
 use Rattle.std.proofs.lemmas.List.Elements.{All-head, All-tail}
-use Rattle.roster_model.specs.declared.grammar.ArcKey.{ArcKey}
-use Rattle.roster_model.specs.declared.grammar.Grammar.{Grammar}
-use Rattle.roster_model.specs.declared.grammar.Sym.{Sym}
-use Rattle.roster_model.specs.declared.instance.Cell.{Cell}
-use Rattle.roster_model.specs.declared.instance.Instance.{Instance}
-use Rattle.roster_model.specs.Coverage.{penalty, IsWithinCell}
-use Rattle.roster_model.specs.Folds.{sum_n, count, Each, In}
-use Rattle.roster_model.specs.Arcs.{Letter, letters, arcs, IsArc}
-use Rattle.roster_model.specs.Limits.{IsDayCell}
-use Rattle.roster_model.specs.Sound.{IsSound}
-use Rattle.roster_model.proofs.EachLemmas.{Each-at, Each-in}
-use Rattle.roster_model.specs.arc_laws.OrNodes.{OrNode, name, suffix, leaf, made, made_by, right_of, used, used_by, same_node, root_of}
-use Rattle.roster_model.specs.arc_laws.Balance.{made_sum, used_sum, IsBalanced}
-use Rattle.roster_model.specs.arc_laws.Counts.{letter_count, root_count, AreCounts}
-use Rattle.roster_model.proofs.arc_laws.BalanceLemmas.{tree_balanced}
-use Rattle.roster_model.proofs.arc_laws.FoldsLemmas.{sum_n-append, sum_n-same, sum_n-zero, count-none, count-le-length}
-use Rattle.roster_model.proofs.arc_laws.Totals.{made_count, node_once}
+use Rattle.model_rosters.specs.declared.grammar.ArcKey.{ArcKey}
+use Rattle.model_rosters.specs.declared.grammar.Grammar.{Grammar}
+use Rattle.model_rosters.specs.declared.grammar.Sym.{Sym}
+use Rattle.model_rosters.specs.declared.instance.Cell.{Cell}
+use Rattle.model_rosters.specs.declared.instance.Instance.{Instance}
+use Rattle.model_rosters.specs.Coverage.{penalty, IsWithinCell}
+use Rattle.model_rosters.specs.Folds.{sum_n, count, Each, In}
+use Rattle.model_rosters.specs.Arcs.{Letter, letters, arcs, IsArc}
+use Rattle.model_rosters.specs.Limits.{IsDayCell}
+use Rattle.model_rosters.specs.Sound.{IsSound}
+use Rattle.model_rosters.proofs.EachLemmas.{Each-at, Each-in}
+use Rattle.model_rosters.specs.arc_laws.OrNodes.{OrNode, name, suffix, leaf, made, made_by, right_of, used, used_by, same_node, root_of}
+use Rattle.model_rosters.specs.arc_laws.Balance.{made_sum, used_sum, IsBalanced}
+use Rattle.model_rosters.specs.arc_laws.Counts.{letter_count, root_count, AreCounts}
+use Rattle.model_rosters.proofs.arc_laws.BalanceLemmas.{tree_balanced}
+use Rattle.model_rosters.proofs.arc_laws.FoldsLemmas.{sum_n-append, sum_n-same, sum_n-zero, count-none, count-le-length}
+use Rattle.model_rosters.proofs.arc_laws.Totals.{made_count, node_once}
 use Rattle.check_parts.specs.pinned_part.Places.{node_place, place_count, IsPlaced}
 use Rattle.check_parts.specs.pinned_part.Net.{made_in, used_in, at, IsCounted, IsNet, AreZero, size_at, cell_size, AreAllowed}
 use Rattle.check_parts.proofs.pinned_part.PlacesLemmas.{node-itself, node-same, same-place, name-within, suffix-within, placed-within}

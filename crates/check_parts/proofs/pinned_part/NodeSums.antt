@@ -1,10 +1,10 @@
 -- Sums at the places of nodes, and which nodes some arcs make or use.
 use Rattle.std.proofs.Common.{◌≡◌, ℕ, arith, ◌+◌, ◌*◌, ◌≤◌, Bool, true, false, cond, List, [], ◌∷◌, refl, ap, ◌∙◌, ◌⊎◌, inl, inr}
-use Rattle.roster_model.specs.declared.grammar.ArcKey.{ArcKey}
-use Rattle.roster_model.specs.declared.grammar.Grammar.{Grammar}
-use Rattle.roster_model.specs.Folds.{sum_n, count, Each, In}
-use Rattle.roster_model.specs.arc_laws.OrNodes.{OrNode, made, used, same_node}
-use Rattle.roster_model.specs.arc_laws.Balance.{made_sum, used_sum}
+use Rattle.model_rosters.specs.declared.grammar.ArcKey.{ArcKey}
+use Rattle.model_rosters.specs.declared.grammar.Grammar.{Grammar}
+use Rattle.model_rosters.specs.Folds.{sum_n, count, Each, In}
+use Rattle.model_rosters.specs.arc_laws.OrNodes.{OrNode, made, used, same_node}
+use Rattle.model_rosters.specs.arc_laws.Balance.{made_sum, used_sum}
 use Rattle.check_parts.specs.pinned_part.Places.{node_place, IsPlaced}
 use Rattle.check_parts.specs.pinned_part.Net.{made_in, used_in, at}
 use Rattle.check_parts.proofs.pinned_part.PlacesLemmas.{place-tells}

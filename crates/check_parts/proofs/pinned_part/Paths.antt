@@ -1,22 +1,22 @@
 -- The bounds that the cuts of a path leave, cut by cut.
 use Rattle.std.proofs.Common.{◌≡◌, ℕ, zero, suc, arith, ◌*◌, ◌≤◌, ◌<◌, Bool, true, false, cond, List, [], ◌∷◌, length, drop, get_or, refl, ap, sym, max, All, Option, None, Some, subst}
 use Rattle.std.proofs.Math.Seq.{drop-cons}
-use Rattle.roster_model.specs.declared.grammar.ArcKey.{ArcKey}
-use Rattle.roster_model.specs.declared.instance.Cut.{Cut}
-use Rattle.roster_model.specs.declared.instance.Side.{Side}
-use Rattle.roster_model.specs.declared.instance.Side.TheVariants.{Low, High}
+use Rattle.model_rosters.specs.declared.grammar.ArcKey.{ArcKey}
+use Rattle.model_rosters.specs.declared.instance.Cut.{Cut}
+use Rattle.model_rosters.specs.declared.instance.Side.{Side}
+use Rattle.model_rosters.specs.declared.instance.Side.TheVariants.{Low, High}
 use Rattle.std.proofs.lemmas.List.Elements.{All-head, All-tail}
 use Rattle.std.proofs.lemmas.Nat.{mul-le}
-use Rattle.roster_model.specs.declared.grammar.Grammar.{Grammar}
-use Rattle.roster_model.specs.declared.grammar.Rule.{Rule}
-use Rattle.roster_model.specs.Arcs.{same_arc, rule_cost}
-use Rattle.roster_model.specs.Folds.{sum_n}
-use Rattle.roster_model.specs.Grammar.{rule_at}
-use Rattle.roster_model.specs.Sound.{IsSound}
-use Rattle.roster_model.proofs.tree_laws.Rules.{sound-rule}
-use Rattle.roster_model.specs.arc_laws.Counts.{top_cost, cost_at}
-use Rattle.roster_model.specs.Cuts.{lo, hi, at_least, at_most}
-use Rattle.roster_model.specs.Limits.{IsSmallCut}
+use Rattle.model_rosters.specs.declared.grammar.Grammar.{Grammar}
+use Rattle.model_rosters.specs.declared.grammar.Rule.{Rule}
+use Rattle.model_rosters.specs.Arcs.{same_arc, rule_cost}
+use Rattle.model_rosters.specs.Folds.{sum_n}
+use Rattle.model_rosters.specs.Grammar.{rule_at}
+use Rattle.model_rosters.specs.Sound.{IsSound}
+use Rattle.model_rosters.proofs.tree_laws.Rules.{sound-rule}
+use Rattle.model_rosters.specs.arc_laws.Counts.{top_cost, cost_at}
+use Rattle.model_rosters.specs.Cuts.{lo, hi, at_least, at_most}
+use Rattle.model_rosters.specs.Limits.{IsSmallCut}
 
 -- the next cut and those after it
 pub lo_next : (cuts : List Cut) (a : ArcKey) (k : ℕ) (d : Cut) → k < length cuts → lo (drop k cuts) a ≡ max (cond (same_arc (get_or cuts k d).arc a) (at_least (get_or cuts k d).side (get_or cuts k d).b) 0) (lo (drop (suc k) cuts) a)

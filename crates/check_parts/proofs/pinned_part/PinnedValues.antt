@@ -1,22 +1,22 @@
 -- The pinned value, from the numbers at the places.
 use Rattle.std.proofs.Common.{◌≡◌, ℕ, ℤ, ◌+◌, ◌*◌, ◌≤◌, List, Option, None, Some, length, inl, inr, arith}
 use Rattle.std.specs.Prelude.{MatchOption}
-use Rattle.roster_model.specs.declared.instance.Cell.{Cell}
-use Rattle.roster_model.specs.declared.instance.Cut.{Cut}
-use Rattle.roster_model.specs.declared.instance.Instance.{Instance}
-use Rattle.roster_model.specs.Coverage.{penalty, IsWithinCell}
-use Rattle.roster_model.specs.Cuts.{lo}
-use Rattle.roster_model.specs.Folds.{sum_n, Each}
-use Rattle.roster_model.specs.GreatestCost.{greatest_cost}
-use Rattle.roster_model.specs.SoundInstance.{IsSoundInstance}
-use Rattle.roster_model.proofs.CostBounds.{cells-le}
-use Rattle.roster_model.proofs.SoundCells.{cells_of_day}
-use Rattle.roster_model.proofs.EachLemmas.{Each-in}
-use Rattle.bound_laws.specs.Pinned.{IsPinnedValue}
+use Rattle.model_rosters.specs.declared.instance.Cell.{Cell}
+use Rattle.model_rosters.specs.declared.instance.Cut.{Cut}
+use Rattle.model_rosters.specs.declared.instance.Instance.{Instance}
+use Rattle.model_rosters.specs.Coverage.{penalty, IsWithinCell}
+use Rattle.model_rosters.specs.Cuts.{lo}
+use Rattle.model_rosters.specs.Folds.{sum_n, Each}
+use Rattle.model_rosters.specs.GreatestCost.{greatest_cost}
+use Rattle.model_rosters.specs.SoundInstance.{IsSoundInstance}
+use Rattle.model_rosters.proofs.CostBounds.{cells-le}
+use Rattle.model_rosters.proofs.SoundCells.{cells_of_day}
+use Rattle.model_rosters.proofs.EachLemmas.{Each-in}
+use Rattle.law_bounds.specs.Pinned.{IsPinnedValue}
 use Rattle.check_parts.specs.pinned_part.Counted.{AreCounted}
 use Rattle.check_parts.specs.pinned_part.Net.{AreZero, IsWithinHeads, AreAllowed, cell_size}
 use Rattle.check_parts.proofs.pinned_part.NetLemmas.{allowed-counts, counts-allowed, penalties-same}
-use Rattle.span_arcs.proofs.ShapesLemmas.{arc-split}
+use Rattle.tree_span_arcs.proofs.ShapesLemmas.{arc-split}
 use Rattle.check_parts.proofs.pinned_part.PlacesLemmas.{made-placed, used-placed}
 use Rattle.check_parts.proofs.pinned_part.NodeSums.{AreNodesPlaced}
 

@@ -4,22 +4,22 @@ use Rattle.std.specs.Prelude.{nat_eq, ◌&&◌}
 use Rattle.std.proofs.lemmas.Bool.{eqb-true, eq-eqb, and_parts}
 use Rattle.std.proofs.lemmas.Nat.{mul-add-lt, mul-le}
 use Rattle.std.proofs.Math.Seq.{drop-cons}
-use Rattle.roster_model.proofs.tree_laws.Symbols.{here, here_last}
-use Rattle.roster_model.specs.declared.grammar.ArcKey.{ArcKey}
-use Rattle.roster_model.specs.declared.grammar.Grammar.{Grammar}
-use Rattle.roster_model.specs.declared.grammar.Sym.{Sym}
-use Rattle.roster_model.specs.declared.grammar.Sym.TheVariants.{Code, Name}
-use Rattle.roster_model.specs.Grammar.{InDay}
-use Rattle.roster_model.specs.Folds.{Each}
-use Rattle.roster_model.specs.Arcs.{Letter}
-use Rattle.roster_model.specs.Sound.{IsSound, Exists}
-use Rattle.roster_model.proofs.tree_laws.Rules.{rule_at-within, sound-rule, sound-symbol}
-use Rattle.span_cells.specs.Places.{shorter, place_of}
-use Rattle.span_cells.proofs.FormRows.{place-within, place-apart, shorter-small}
-use Rattle.span_cells.proofs.CellsLemmas.{same-row}
-use Rattle.roster_model.specs.arc_laws.OrNodes.{OrNode, name, suffix, leaf, same_node, made, made_by, symbol_node, used, used_by}
-use Rattle.roster_model.proofs.arc_laws.BalanceLemmas.{left_of-is, right_of-is}
-use Rattle.span_arcs.specs.Shapes.{IsSplit}
+use Rattle.model_rosters.proofs.tree_laws.Symbols.{here, here_last}
+use Rattle.model_rosters.specs.declared.grammar.ArcKey.{ArcKey}
+use Rattle.model_rosters.specs.declared.grammar.Grammar.{Grammar}
+use Rattle.model_rosters.specs.declared.grammar.Sym.{Sym}
+use Rattle.model_rosters.specs.declared.grammar.Sym.TheVariants.{Code, Name}
+use Rattle.model_rosters.specs.Grammar.{InDay}
+use Rattle.model_rosters.specs.Folds.{Each}
+use Rattle.model_rosters.specs.Arcs.{Letter}
+use Rattle.model_rosters.specs.Sound.{IsSound, Exists}
+use Rattle.model_rosters.proofs.tree_laws.Rules.{rule_at-within, sound-rule, sound-symbol}
+use Rattle.tree_span_cells.specs.Places.{shorter, place_of}
+use Rattle.tree_span_cells.proofs.FormRows.{place-within, place-apart, shorter-small}
+use Rattle.tree_span_cells.proofs.CellsLemmas.{same-row}
+use Rattle.model_rosters.specs.arc_laws.OrNodes.{OrNode, name, suffix, leaf, same_node, made, made_by, symbol_node, used, used_by}
+use Rattle.model_rosters.proofs.arc_laws.BalanceLemmas.{left_of-is, right_of-is}
+use Rattle.tree_span_arcs.specs.Shapes.{IsSplit}
 use Rattle.check_parts.specs.pinned_part.Places.{width, node_count, place_count, span_place, node_place, IsPlaced}
 
 -- there are few places for names and suffixes

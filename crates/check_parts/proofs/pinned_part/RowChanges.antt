@@ -4,10 +4,10 @@ use Rattle.std.specs.Prelude.{nat_eq, map}
 use Rattle.std.proofs.lemmas.Bool.{eqb-true, eq-eqb}
 use Rattle.std.proofs.lemmas.Int.{ints}
 use Rattle.std.proofs.lemmas.List.{length-set}
-use Rattle.roster_model.specs.declared.grammar.ArcKey.{ArcKey}
-use Rattle.roster_model.specs.declared.grammar.Grammar.{Grammar}
-use Rattle.roster_model.specs.Folds.{count}
-use Rattle.roster_model.specs.arc_laws.OrNodes.{OrNode, made, used}
+use Rattle.model_rosters.specs.declared.grammar.ArcKey.{ArcKey}
+use Rattle.model_rosters.specs.declared.grammar.Grammar.{Grammar}
+use Rattle.model_rosters.specs.Folds.{count}
+use Rattle.model_rosters.specs.arc_laws.OrNodes.{OrNode, made, used}
 use Rattle.check_parts.specs.pinned_part.Places.{node_place}
 use Rattle.check_parts.specs.pinned_part.Net.{at, IsCounted, one_or_two, size_at}
 

@@ -2,9 +2,9 @@
 use Rattle.std.proofs.Common.{◌≡◌, ℕ, ℤ, pos, ◌+◌, ◌<◌, ◌≤◌, arith, List, ◌∷◌, length, get_or, drop, ap, ◌∙◌}
 use Rattle.std.specs.Prelude.{◌+ℤ◌}
 use Rattle.std.proofs.lemmas.List.{at_drop_more, drop_all}
-use Rattle.roster_model.specs.declared.instance.Cell.{Cell}
-use Rattle.roster_model.specs.Folds.{sum_z}
-use Rattle.roster_model.specs.Reduced.{CellPrice, cell_prices}
+use Rattle.model_rosters.specs.declared.instance.Cell.{Cell}
+use Rattle.model_rosters.specs.Folds.{sum_z}
+use Rattle.model_rosters.specs.Reduced.{CellPrice, cell_prices}
 
 module _ (f : CellPrice → ℤ) (cells : List Cell) (prices : List ℤ) (k : ℕ) where
   abbrev pub rest_sum : ℤ

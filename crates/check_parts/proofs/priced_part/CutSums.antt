@@ -7,16 +7,16 @@ use Rattle.std.proofs.lemmas.Int.{ints}
 use Rattle.std.proofs.lemmas.List.{at_drop_more, at_drop_all}
 use Rattle.std.proofs.lemmas.Option.{same_Some, none-some}
 use Rattle.std.proofs.lemmas.Bool.Decides.{eqb_tells}
-use Rattle.roster_model.specs.declared.instance.Cut.{Cut}
-use Rattle.roster_model.specs.declared.instance.Mult.{Mult}
-use Rattle.roster_model.specs.declared.instance.Side.{Side}
-use Rattle.roster_model.specs.declared.instance.Side.TheVariants.{Low, High}
-use Rattle.roster_model.specs.Folds.{sum_z}
-use Rattle.roster_model.specs.PriceLimits.{AreRising, Lacks}
-use Rattle.roster_model.specs.Reduced.{mult_of, cut_prices}
-use Rattle.roster_model.specs.Sums.{Within}
-use Rattle.roster_model.proofs.Mults.{lacked, lacks}
-use Rattle.bound_laws.specs.Lagrangian.{share_of, cut_share}
+use Rattle.model_rosters.specs.declared.instance.Cut.{Cut}
+use Rattle.model_rosters.specs.declared.instance.Mult.{Mult}
+use Rattle.model_rosters.specs.declared.instance.Side.{Side}
+use Rattle.model_rosters.specs.declared.instance.Side.TheVariants.{Low, High}
+use Rattle.model_rosters.specs.Folds.{sum_z}
+use Rattle.model_rosters.specs.PriceLimits.{AreRising, Lacks}
+use Rattle.model_rosters.specs.Reduced.{mult_of, cut_prices}
+use Rattle.model_rosters.specs.Sums.{Within}
+use Rattle.model_rosters.proofs.Mults.{lacked, lacks}
+use Rattle.law_bounds.specs.Lagrangian.{share_of, cut_share}
 
 abbrev cuts_sum : ℕ → List Cut → List Mult → ℤ
 cuts_sum j cs ms = sum_z cut_share (cut_prices j cs ms)

@@ -1,7 +1,7 @@
 -- What a list tells of the names that derive a word of the day.
 use Rattle.std.proofs.Common.{◌≡◌, ◌≢◌, ◌↔◌, ℕ, ◌+◌, ◌<◌, Bool, true, false, not, List, length, set, get_or, get_or-set_same, get_or-set_other, arith, refl, sym, ◌∙◌, ap, subst, ◌⊎◌, inl, inr}
 use Rattle.std.specs.Prelude.{slice_index_or, slice_set, IsTrue}
-use Rattle.roster_model.specs.declared.grammar.Grammar.{Grammar}
+use Rattle.model_rosters.specs.declared.grammar.Grammar.{Grammar}
 use Rattle.check_parts.specs.priced_part.Filled.{NeedsInVain, TellsDerived}
 
 -- employees are needed in vain where the list tells that the name derives nothing

@@ -1,7 +1,7 @@
 -- The least over a range of counts, one count after another.
 use Rattle.std.proofs.Common.{◌≡◌, ℕ, ℤ, ◌+◌, refl, ap, ◌∙◌, add-one}
 use Rattle.std.specs.Int.{int_min}
-use Rattle.bound_laws.specs.Lagrangian.{least_from}
+use Rattle.law_bounds.specs.Lagrangian.{least_from}
 
 step : (f : ℕ → ℤ) (a n : ℕ) → int_min (least_from f a n) (f (a + (n + 1))) ≡ least_from f a (n + 1)
 step f a n = rw add-one refl

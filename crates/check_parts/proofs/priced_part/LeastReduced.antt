@@ -1,21 +1,21 @@
 -- Under prices that agree with an instance's prices, the least sum of a tree is the least reduced cost.
 use Rattle.std.proofs.Common.{◌≡◌, ℕ, ℤ, ◌^◌, Option, None, Some, IfSome, refl, sym, subst}
 use Rattle.std.specs.Prelude.{IsSome, ◌+◌}
-use Rattle.roster_model.specs.declared.grammar.Grammar.{Grammar}
-use Rattle.roster_model.specs.declared.grammar.Sym.TheVariants.{Name}
-use Rattle.roster_model.specs.declared.instance.Cut.{Cut}
-use Rattle.roster_model.specs.declared.instance.Instance.{Instance}
-use Rattle.roster_model.specs.declared.instance.Prices.{Prices}
-use Rattle.roster_model.specs.Agreement.{Agree}
-use Rattle.roster_model.specs.Reduced.{reduced_view}
-use Rattle.roster_model.specs.Sound.{IsSound}
-use Rattle.roster_model.specs.Sums.{PriceView, Within, AllWithin, plus, parts_sum, tree_sum, IsLeast}
-use Rattle.roster_model.specs.Trees.{Parts, done, letter, uses, IsTreeOf, IsDayTree}
-use Rattle.roster_model.proofs.AgreementLemmas.{tree_same}
-use Rattle.roster_model.proofs.tree_laws.LeastValues.{IsLeast-sums}
-use Rattle.roster_model.proofs.tree_laws.Bounds.{symbol_within}
-use Rattle.bound_laws.specs.Lagrangian.{IsLeastReduced}
-use Rattle.span_table.specs.Tables.{TableView, IsFilled}
+use Rattle.model_rosters.specs.declared.grammar.Grammar.{Grammar}
+use Rattle.model_rosters.specs.declared.grammar.Sym.TheVariants.{Name}
+use Rattle.model_rosters.specs.declared.instance.Cut.{Cut}
+use Rattle.model_rosters.specs.declared.instance.Instance.{Instance}
+use Rattle.model_rosters.specs.declared.instance.Prices.{Prices}
+use Rattle.model_rosters.specs.Agreement.{Agree}
+use Rattle.model_rosters.specs.Reduced.{reduced_view}
+use Rattle.model_rosters.specs.Sound.{IsSound}
+use Rattle.model_rosters.specs.Sums.{PriceView, Within, AllWithin, plus, parts_sum, tree_sum, IsLeast}
+use Rattle.model_rosters.specs.Trees.{Parts, done, letter, uses, IsTreeOf, IsDayTree}
+use Rattle.model_rosters.proofs.AgreementLemmas.{tree_same}
+use Rattle.model_rosters.proofs.tree_laws.LeastValues.{IsLeast-sums}
+use Rattle.model_rosters.proofs.tree_laws.Bounds.{symbol_within}
+use Rattle.law_bounds.specs.Lagrangian.{IsLeastReduced}
+use Rattle.tree_span_table.specs.Tables.{TableView, IsFilled}
 use Rattle.check_parts.specs.priced_part.Filled.{IsFilledForAll}
 use Rattle.std.proofs.Common.{List}
 use Rattle.std.proofs.lemmas.Bool.{false≢true}

@@ -1,7 +1,7 @@
 -- A search along a list for an item with a property.
 use Rattle.std.proofs.Common.{ℕ, zero, suc, ◌+◌, ◌<◌, ◌≤◌, arith, List, [], ◌∷◌, length, get_or, drop, refl, subst, inl, inr}
 use Rattle.std.proofs.lemmas.List.{at_drop_more, drop_all}
-use Rattle.roster_model.specs.Folds.{In}
+use Rattle.model_rosters.specs.Folds.{In}
 
 module _ {A : Type 0} where
   pub In-get_or : (xs : List A) (k : ℕ) (d : A) → k < length xs → In (get_or xs k d) xs

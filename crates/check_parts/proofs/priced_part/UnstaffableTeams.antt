@@ -1,13 +1,13 @@
 -- Teams that need employees and have no shift, by their groups.
 use Rattle.std.proofs.Common.{◌≡◌, ◌↔◌, ℕ, ◌+◌, ◌<◌, arith, All, List, [], ◌∷◌, length, ap, refl, sym, subst, inl, inr, ◌∙◌, length-append}
 use Rattle.std.proofs.lemmas.List.Elements.{All-nil, All-weaker, All-same}
-use Rattle.roster_model.specs.declared.grammar.Grammar.{Grammar}
-use Rattle.roster_model.specs.declared.instance.Group.{Group}
-use Rattle.roster_model.specs.declared.instance.Instance.{Instance}
-use Rattle.roster_model.specs.Folds.{In}
-use Rattle.roster_model.specs.SoundInstance.{IsSoundInstance, IsGroup, IsGroupedBy, HasGroups}
-use Rattle.roster_model.specs.Teams.{Team, teams, teams_of, teams_from}
-use Rattle.bound_laws.specs.Infeasible.{IsUnstaffable}
+use Rattle.model_rosters.specs.declared.grammar.Grammar.{Grammar}
+use Rattle.model_rosters.specs.declared.instance.Group.{Group}
+use Rattle.model_rosters.specs.declared.instance.Instance.{Instance}
+use Rattle.model_rosters.specs.Folds.{In}
+use Rattle.model_rosters.specs.SoundInstance.{IsSoundInstance, IsGroup, IsGroupedBy, HasGroups}
+use Rattle.model_rosters.specs.Teams.{Team, teams, teams_of, teams_from}
+use Rattle.law_bounds.specs.Infeasible.{IsUnstaffable}
 use Rattle.check_parts.specs.priced_part.Filled.{NeedsInVain}
 
 -- some team of the list needs employees in vain

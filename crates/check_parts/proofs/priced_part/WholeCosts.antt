@@ -2,7 +2,7 @@
 use Rattle.std.proofs.Common.{◌≡◌, ℕ, pos, ◌+◌, ◌-◌, ◌*◌, ◌≤◌, ◌<◌, arith}
 use Rattle.std.specs.Prelude.{◌*ℤ◌}
 use Rattle.std.proofs.Math.Nat.{div-lt_iff_lt-mul}
-use Rattle.bound_laws.specs.Priced.{rounded_up}
+use Rattle.law_bounds.specs.Priced.{rounded_up}
 
 pub whole_up : (d u : ℕ) → 1 ≤ d → rounded_up (pos d *ℤ pos u) d ≡ u
 whole_up d u h =

@@ -1,14 +1,14 @@
 -- Counts of the words that have a byte, kept while the words are gone through.
 use Rattle.std.proofs.Common.{◌≡◌, ℕ, zero, suc, ◌+◌, ◌-◌, ◌^◌, ◌<◌, ◌≤◌, min, arith, cond, List, [], ◌∷◌, ◌++◌, length, map, get_or, take, drop, All, Option, Some, IfSome, ap, refl, subst, ◌∙◌}
 use Rattle.std.proofs.lemmas.List.{at_drop_more, drop_all, get_or_default}
-use Rattle.lane_min.specs.Counted.{counted}
-use Rattle.roster_model.specs.declared.grammar.Grammar.{Grammar}
-use Rattle.roster_model.specs.declared.instance.Cell.{Cell}
-use Rattle.roster_model.specs.declared.instance.Shift.{Shift}
-use Rattle.roster_model.specs.Coverage.{code_byte, covered, has_at}
-use Rattle.roster_model.specs.Duties.{Duty, duty}
-use Rattle.roster_model.specs.Folds.{count}
-use Rattle.certificates.specs.RosterCauses.{duties}
+use Rattle.check_lanes.specs.Counted.{counted}
+use Rattle.model_rosters.specs.declared.grammar.Grammar.{Grammar}
+use Rattle.model_rosters.specs.declared.instance.Cell.{Cell}
+use Rattle.model_rosters.specs.declared.instance.Shift.{Shift}
+use Rattle.model_rosters.specs.Coverage.{code_byte, covered, has_at}
+use Rattle.model_rosters.specs.Duties.{Duty, duty}
+use Rattle.model_rosters.specs.Folds.{count}
+use Rattle.check_certificates.specs.RosterCauses.{duties}
 use Rattle.check_parts.specs.declared.roster_part.counter.Counter.{Counter}
 use Rattle.check_parts.specs.roster_part.Counters.{AreCounts, IsCounterFor}
 use Rattle.check_parts.proofs.roster_part.ShiftCounts.{count-few, length-duties}

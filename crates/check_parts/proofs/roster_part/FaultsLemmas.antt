@@ -1,18 +1,18 @@
 -- The causes in their order.
 use Rattle.std.proofs.Common.{◌≡◌, ℕ, arith, Option, None, Some, MatchOption, List, refl, sym, subst, inl, inr}
 use Rattle.std.specs.Prelude.{◌≢◌}
-use Rattle.roster_model.specs.declared.instance.Cell.{Cell}
-use Rattle.roster_model.specs.declared.instance.Instance.{Instance}
-use Rattle.roster_model.specs.declared.instance.Shift.{Shift}
-use Rattle.roster_model.specs.Coverage.{covered, IsWithinCell}
-use Rattle.roster_model.specs.Duties.{Duty}
-use Rattle.roster_model.specs.Folds.{Each}
-use Rattle.roster_model.specs.Rosters.{ArePrices, HasHeads, roster_cost}
-use Rattle.roster_model.specs.Teams.{Team, teams}
-use Rattle.certificates.specs.declared.why.Why.{Why}
-use Rattle.certificates.specs.declared.why.Why.TheVariants.{NotAShift, ShiftCost, WrongHeads, WrongCost, NotAnArc, EmptyHalf, NotPinned, BoundTooHigh, Outside}
-use Rattle.certificates.specs.RosterCauses.{duties, IsOutOfRange, IsOutside}
-use Rattle.certificates.specs.RosterCauses.{stated_prices}
+use Rattle.model_rosters.specs.declared.instance.Cell.{Cell}
+use Rattle.model_rosters.specs.declared.instance.Instance.{Instance}
+use Rattle.model_rosters.specs.declared.instance.Shift.{Shift}
+use Rattle.model_rosters.specs.Coverage.{covered, IsWithinCell}
+use Rattle.model_rosters.specs.Duties.{Duty}
+use Rattle.model_rosters.specs.Folds.{Each}
+use Rattle.model_rosters.specs.Rosters.{ArePrices, HasHeads, roster_cost}
+use Rattle.model_rosters.specs.Teams.{Team, teams}
+use Rattle.check_certificates.specs.declared.why.Why.{Why}
+use Rattle.check_certificates.specs.declared.why.Why.TheVariants.{NotAShift, ShiftCost, WrongHeads, WrongCost, NotAnArc, EmptyHalf, NotPinned, BoundTooHigh, Outside}
+use Rattle.check_certificates.specs.RosterCauses.{duties, IsOutOfRange, IsOutside}
+use Rattle.check_certificates.specs.RosterCauses.{stated_prices}
 use Rattle.check_parts.specs.roster_part.Faults.{IsRightlyStated, IsPriceCause, IsHeadsCause, IsRosterCause}
 use Rattle.check_parts.proofs.roster_part.Items.{no-first}
 use Rattle.check_parts.proofs.roster_part.WordPrices.{no_words, no_prices}

@@ -2,9 +2,9 @@
 use Rattle.std.proofs.Common.{◌≡◌, ℕ, suc, ◌+◌, ◌-◌, ◌<◌, ◌≤◌, arith, Some, List, [], ◌∷◌, length, refl, sym, subst, ◌∙◌, inl, inr, ◌⊎◌}
 use Rattle.std.specs.Prelude.{slice_get}
 use Rattle.std.proofs.lemmas.Option.{same_Some, slice_get_within}
-use Rattle.roster_model.specs.Folds.{Each}
-use Rattle.roster_model.proofs.EachLemmas.{Each-get}
-use Rattle.certificates.specs.First.{IsFirst}
+use Rattle.model_rosters.specs.Folds.{Each}
+use Rattle.model_rosters.proofs.EachLemmas.{Each-get}
+use Rattle.check_certificates.specs.First.{IsFirst}
 
 module _ {A : Type 0} where
   -- each of the first k items has the property

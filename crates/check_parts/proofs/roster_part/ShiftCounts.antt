@@ -3,13 +3,13 @@ use Rattle.std.proofs.Common.{◌≡◌, ℕ, ◌+◌, ◌<◌, ◌≤◌, arith
 use Rattle.std.specs.Prelude.{nat_eq}
 use Rattle.std.proofs.lemmas.List.{at_drop_more, drop_all}
 use Rattle.std.proofs.lemmas.List.Sums.{sum_by-cons}
-use Rattle.roster_model.specs.declared.grammar.Grammar.{Grammar}
-use Rattle.roster_model.specs.declared.instance.Cell.{Cell}
-use Rattle.roster_model.specs.declared.instance.Shift.{Shift}
-use Rattle.roster_model.specs.Coverage.{covered, covers_cell}
-use Rattle.roster_model.specs.Duties.{Duty, duty}
-use Rattle.roster_model.specs.Folds.{count, sum_n}
-use Rattle.certificates.specs.RosterCauses.{duties}
+use Rattle.model_rosters.specs.declared.grammar.Grammar.{Grammar}
+use Rattle.model_rosters.specs.declared.instance.Cell.{Cell}
+use Rattle.model_rosters.specs.declared.instance.Shift.{Shift}
+use Rattle.model_rosters.specs.Coverage.{covered, covers_cell}
+use Rattle.model_rosters.specs.Duties.{Duty, duty}
+use Rattle.model_rosters.specs.Folds.{count, sum_n}
+use Rattle.check_certificates.specs.RosterCauses.{duties}
 
 pub members-are : (n : ℕ) (ss : List Shift) → count_by (λ (s : Shift). nat_eq s.group n) ss ≡ count (λ (d : Duty). nat_eq d.team n) (map duty ss)
 members-are n [] = refl

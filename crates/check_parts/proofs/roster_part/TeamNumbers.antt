@@ -2,13 +2,13 @@
 use Rattle.std.proofs.Common.{◌≡◌, ℕ, zero, suc, ◌+◌, ◌<◌, ◌≤◌, max, arith, None, Some, List, [], ◌∷◌, length, ap, refl, sym, subst, ◌∙◌, inl}
 use Rattle.std.specs.Prelude.{slice_get}
 use Rattle.std.proofs.lemmas.Option.{none-some, same_Some, slice_get-get_or}
-use Rattle.roster_model.specs.declared.instance.Group.{Group}
-use Rattle.roster_model.specs.declared.instance.Instance.{Instance}
-use Rattle.roster_model.specs.Folds.{In}
-use Rattle.roster_model.specs.Teams.{Team, teams, teams_of, teams_from}
-use Rattle.roster_model.proofs.TeamNumbers.{team_apart}
-use Rattle.roster_model.proofs.EachLemmas.{get-in}
-use Rattle.certificates.specs.Sound.{IsGroupNumber}
+use Rattle.model_rosters.specs.declared.instance.Group.{Group}
+use Rattle.model_rosters.specs.declared.instance.Instance.{Instance}
+use Rattle.model_rosters.specs.Folds.{In}
+use Rattle.model_rosters.specs.Teams.{Team, teams, teams_of, teams_from}
+use Rattle.model_rosters.proofs.TeamNumbers.{team_apart}
+use Rattle.model_rosters.proofs.EachLemmas.{get-in}
+use Rattle.check_certificates.specs.Sound.{IsGroupNumber}
 use Rattle.check_parts.specs.roster_part.TeamViews.{IsTeamName}
 
 abbrev group_team : ℕ → Group → Team

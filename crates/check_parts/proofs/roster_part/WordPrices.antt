@@ -3,22 +3,22 @@ use Rattle.std.proofs.Common.{◌≡◌, ℕ, ◌+◌, ◌≤◌, arith, Option,
 use Rattle.std.specs.Prelude.{◌≢◌, slice_get}
 use Rattle.std.proofs.lemmas.Option.{same_Some}
 use Rattle.std.specs.Option.{option_or}
-use Rattle.roster_model.specs.declared.instance.Instance.{Instance}
-use Rattle.roster_model.specs.declared.instance.Shift.{Shift}
-use Rattle.roster_model.specs.Duties.{duty}
-use Rattle.roster_model.specs.Folds.{Each}
-use Rattle.roster_model.specs.Rosters.{ArePrices, IsTeamPrice}
-use Rattle.roster_model.specs.Shifts.{IsShift, IsPrice}
-use Rattle.roster_model.specs.Teams.{Team}
-use Rattle.roster_model.specs.word_prices.Prices.{IsPriceOrNone}
-use Rattle.certificates.specs.declared.why.Why.{Why}
-use Rattle.certificates.specs.declared.why.Why.TheVariants.{NotAShift, ShiftCost, WrongHeads, WrongCost, NotAnArc, EmptyHalf, NotPinned, BoundTooHigh, Outside}
-use Rattle.certificates.specs.RosterCauses.{duties, IsNoShift, IsMispriced, IsFirstNoShift, IsFirstMispriced}
-use Rattle.certificates.specs.RosterCauses.{stated_prices}
+use Rattle.model_rosters.specs.declared.instance.Instance.{Instance}
+use Rattle.model_rosters.specs.declared.instance.Shift.{Shift}
+use Rattle.model_rosters.specs.Duties.{duty}
+use Rattle.model_rosters.specs.Folds.{Each}
+use Rattle.model_rosters.specs.Rosters.{ArePrices, IsTeamPrice}
+use Rattle.model_rosters.specs.Shifts.{IsShift, IsPrice}
+use Rattle.model_rosters.specs.Teams.{Team}
+use Rattle.model_rosters.specs.word_prices.Prices.{IsPriceOrNone}
+use Rattle.check_certificates.specs.declared.why.Why.{Why}
+use Rattle.check_certificates.specs.declared.why.Why.TheVariants.{NotAShift, ShiftCost, WrongHeads, WrongCost, NotAnArc, EmptyHalf, NotPinned, BoundTooHigh, Outside}
+use Rattle.check_certificates.specs.RosterCauses.{duties, IsNoShift, IsMispriced, IsFirstNoShift, IsFirstMispriced}
+use Rattle.check_certificates.specs.RosterCauses.{stated_prices}
 use Rattle.check_parts.specs.roster_part.Faults.{IsPriceBefore, IsPriceCause, HasNoOtherWord, HasNoOtherPrice}
 use Rattle.check_parts.specs.roster_part.TeamViews.{IsTeamName}
 use Rattle.check_parts.proofs.roster_part.Items.{Before, before-next, before-all, first-here, no-first}
-use Rattle.roster_model.proofs.TeamNumbers.{team_apart}
+use Rattle.model_rosters.proofs.TeamNumbers.{team_apart}
 
 module _ (i : Instance) where
   -- the word is a shift of its team

@@ -1,12 +1,12 @@
 -- The arcs of the instance, counted by the least counts that cuts leave them.
 use Rattle.std.specs.Prelude.{ℕ, ℤ, ◌≡◌, ◌*◌, List}
-use Rattle.roster_model.specs.declared.grammar.ArcKey.{ArcKey}
-use Rattle.roster_model.specs.declared.grammar.Grammar.{Grammar}
-use Rattle.roster_model.specs.declared.instance.Cut.{Cut}
-use Rattle.roster_model.specs.Cuts.{lo}
-use Rattle.roster_model.specs.Folds.{sum_n}
-use Rattle.roster_model.specs.arc_laws.Lists.{AreArcs}
-use Rattle.roster_model.specs.arc_laws.Counts.{top_cost}
+use Rattle.model_rosters.specs.declared.grammar.ArcKey.{ArcKey}
+use Rattle.model_rosters.specs.declared.grammar.Grammar.{Grammar}
+use Rattle.model_rosters.specs.declared.instance.Cut.{Cut}
+use Rattle.model_rosters.specs.Cuts.{lo}
+use Rattle.model_rosters.specs.Folds.{sum_n}
+use Rattle.model_rosters.specs.arc_laws.Lists.{AreArcs}
+use Rattle.model_rosters.specs.arc_laws.Counts.{top_cost}
 use Rattle.check_parts.specs.pinned_part.Net.{IsNet}
 
 -- all arcs of the instance were counted by the least counts that the cuts leave them

@@ -1,12 +1,12 @@
 -- What the arcs add and take away at the places of the nodes that they make and use.
 use Rattle.std.specs.Prelude.{ℕ, ℤ, pos, ◌≡◌, ◌≢◌, ◌*◌, ◌<◌, ◌≤◌, ◌+ℤ◌, ◌-ℤ◌, Bool, cond, nat_eq, List, [], ◌∷◌, Option, None, Some, length, slice_index_or, unsigned_abs}
-use Rattle.roster_model.specs.declared.grammar.ArcKey.{ArcKey}
-use Rattle.roster_model.specs.declared.grammar.Grammar.{Grammar}
-use Rattle.roster_model.specs.declared.instance.Cell.{Cell}
-use Rattle.roster_model.specs.declared.instance.Instance.{Instance}
-use Rattle.roster_model.specs.Coverage.{IsWithinCell}
-use Rattle.roster_model.specs.Folds.{sum_n, count, Each}
-use Rattle.roster_model.specs.arc_laws.OrNodes.{OrNode, leaf, made, used, root_of}
+use Rattle.model_rosters.specs.declared.grammar.ArcKey.{ArcKey}
+use Rattle.model_rosters.specs.declared.grammar.Grammar.{Grammar}
+use Rattle.model_rosters.specs.declared.instance.Cell.{Cell}
+use Rattle.model_rosters.specs.declared.instance.Instance.{Instance}
+use Rattle.model_rosters.specs.Coverage.{IsWithinCell}
+use Rattle.model_rosters.specs.Folds.{sum_n, count, Each}
+use Rattle.model_rosters.specs.arc_laws.OrNodes.{OrNode, leaf, made, used, root_of}
 use Rattle.check_parts.specs.pinned_part.Places.{node_place, node_count, place_count}
 
 -- the sum of the numbers of the arcs that make a node that passes the test

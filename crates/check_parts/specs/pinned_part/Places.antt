@@ -1,9 +1,9 @@
 -- Places in a row for the names, the suffixes and the letters of a day.
 use Rattle.std.specs.Prelude.{ℕ, ◌+◌, ◌-◌, ◌*◌, ◌<◌, ◌≤◌, length}
-use Rattle.roster_model.specs.declared.grammar.Grammar.{Grammar}
-use Rattle.roster_model.specs.Grammar.{InDay}
-use Rattle.span_cells.specs.Places.{shorter, place_of}
-use Rattle.roster_model.specs.arc_laws.OrNodes.{OrNode, name, suffix, leaf}
+use Rattle.model_rosters.specs.declared.grammar.Grammar.{Grammar}
+use Rattle.model_rosters.specs.Grammar.{InDay}
+use Rattle.tree_span_cells.specs.Places.{shorter, place_of}
+use Rattle.model_rosters.specs.arc_laws.OrNodes.{OrNode, name, suffix, leaf}
 
 -- how many names and suffixes have places on each span: each name, and seven suffixes of each rule
 abbrev pub width : Grammar → ℕ

@@ -1,6 +1,6 @@
 -- What a contract sees of the room for balances.
 use Rattle.std.specs.Prelude.{◌≡◌, length}
-use Rattle.roster_model.specs.declared.grammar.Grammar.{Grammar}
+use Rattle.model_rosters.specs.declared.grammar.Grammar.{Grammar}
 use Rattle.check_parts.specs.declared.pinned_part.balances.Balances.{Balances}
 use Rattle.check_parts.specs.pinned_part.Places.{place_count}
 

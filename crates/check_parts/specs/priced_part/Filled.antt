@@ -1,9 +1,9 @@
 -- Tables that tell which names derive a word of the day.
 use Rattle.std.specs.Prelude.{ℕ, ◌≡◌, ◌≤◌, ◌<◌, ◌↔◌, Bool, true, false, List, IsSome, length, slice_index_or}
-use Rattle.roster_model.specs.declared.grammar.Grammar.{Grammar}
-use Rattle.roster_model.specs.Trees.{Parts, IsTreeOf}
-use Rattle.roster_model.specs.Sums.{PriceView, tree_sum}
-use Rattle.span_table.specs.Tables.{TableView, IsFilled}
+use Rattle.model_rosters.specs.declared.grammar.Grammar.{Grammar}
+use Rattle.model_rosters.specs.Trees.{Parts, IsTreeOf}
+use Rattle.model_rosters.specs.Sums.{PriceView, tree_sum}
+use Rattle.tree_span_table.specs.Tables.{TableView, IsFilled}
 
 -- the table is filled for prices under which each tree of the day has a sum
 pub record IsFilledForAll (g : Grammar) (table : TableView) : Type 0 where

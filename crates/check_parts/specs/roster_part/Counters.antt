@@ -1,9 +1,9 @@
 -- How many words of a roster have a letter, period by period.
 use Rattle.std.specs.Prelude.{ℕ, ◌≡◌, ◌<◌, IfSome, List, length, slice_index}
-use Rattle.roster_model.specs.declared.grammar.Grammar.{Grammar}
-use Rattle.roster_model.specs.Coverage.{code_byte, has_at}
-use Rattle.roster_model.specs.Duties.{Duty}
-use Rattle.roster_model.specs.Folds.{count}
+use Rattle.model_rosters.specs.declared.grammar.Grammar.{Grammar}
+use Rattle.model_rosters.specs.Coverage.{code_byte, has_at}
+use Rattle.model_rosters.specs.Duties.{Duty}
+use Rattle.model_rosters.specs.Folds.{count}
 use Rattle.check_parts.specs.declared.roster_part.counter.Counter.{Counter}
 
 -- for each period of the longest day, how many of the words have the byte there

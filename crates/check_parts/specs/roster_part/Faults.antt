@@ -1,14 +1,14 @@
 -- A roster that is stated rightly, and the first cause for which one is not.
 use Rattle.std.specs.Prelude.{ℕ, ◌≡◌, ◌+◌, List, Some, slice_get}
-use Rattle.roster_model.specs.declared.instance.Instance.{Instance}
-use Rattle.roster_model.specs.declared.instance.Shift.{Shift}
-use Rattle.roster_model.specs.Duties.{duty}
-use Rattle.roster_model.specs.Folds.{Each}
-use Rattle.roster_model.specs.Rosters.{ArePrices, HasHeads, IsTeamPrice, roster_cost}
-use Rattle.roster_model.specs.Teams.{teams}
-use Rattle.certificates.specs.declared.why.Why.{Why}
-use Rattle.certificates.specs.declared.why.Why.TheVariants.{NotAShift, ShiftCost, WrongHeads, WrongCost, NotAnArc, EmptyHalf, NotPinned, BoundTooHigh, Outside}
-use Rattle.certificates.specs.RosterCauses.{duties, stated_prices, IsFirstNoShift, IsFirstMispriced, IsFirstOutOfRange, IsMiscounted, IsFirstOutside}
+use Rattle.model_rosters.specs.declared.instance.Instance.{Instance}
+use Rattle.model_rosters.specs.declared.instance.Shift.{Shift}
+use Rattle.model_rosters.specs.Duties.{duty}
+use Rattle.model_rosters.specs.Folds.{Each}
+use Rattle.model_rosters.specs.Rosters.{ArePrices, HasHeads, IsTeamPrice, roster_cost}
+use Rattle.model_rosters.specs.Teams.{teams}
+use Rattle.check_certificates.specs.declared.why.Why.{Why}
+use Rattle.check_certificates.specs.declared.why.Why.TheVariants.{NotAShift, ShiftCost, WrongHeads, WrongCost, NotAnArc, EmptyHalf, NotPinned, BoundTooHigh, Outside}
+use Rattle.check_certificates.specs.RosterCauses.{duties, stated_prices, IsFirstNoShift, IsFirstMispriced, IsFirstOutOfRange, IsMiscounted, IsFirstOutside}
 
 -- each word is a shift of its team at its stated price, as many employees of each team work as may,
 -- and together the roster costs what is said

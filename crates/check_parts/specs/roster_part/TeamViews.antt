@@ -1,8 +1,8 @@
 -- Teams as the code holds them.
 use Rattle.std.specs.Prelude.{ℕ, ◌≡◌}
-use Rattle.roster_model.specs.declared.instance.Instance.{Instance}
-use Rattle.roster_model.specs.Folds.{In}
-use Rattle.roster_model.specs.Teams.{Team, teams}
+use Rattle.model_rosters.specs.declared.instance.Instance.{Instance}
+use Rattle.model_rosters.specs.Folds.{In}
+use Rattle.model_rosters.specs.Teams.{Team, teams}
 use Rattle.check_parts.specs.declared.roster_part.team.Team.{Team as HeldTeam}
 
 abbrev pub team_view : HeldTeam → Team

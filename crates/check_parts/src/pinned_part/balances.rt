@@ -1,10 +1,10 @@
 //! The room for the balances of counts at the nodes.
 
 ghost use Rattle.std.specs.Prelude.{IfOk};
-ghost use Rattle.roster_model.specs.Sound.{IsSound};
+ghost use Rattle.model_rosters.specs.Sound.{IsSound};
 
 use crate::pinned_part::places::place_count;
-use roster_model::{Grammar, Memory};
+use model_rosters::{Grammar, Memory};
 use std::alloc::Global;
 
 /// The room in which the counts of arcs are balanced: a number for each name, each suffix and each

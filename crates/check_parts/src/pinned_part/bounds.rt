@@ -1,10 +1,10 @@
 //! The bounds that cuts leave an arc.
 
 ghost use Rattle.std.specs.Prelude.{◌≡◌, ◌≤◌, All};
-ghost use Rattle.roster_model.specs.Cuts.{lo, hi};
-ghost use Rattle.roster_model.specs.Limits.{IsSmallCut};
+ghost use Rattle.model_rosters.specs.Cuts.{lo, hi};
+ghost use Rattle.model_rosters.specs.Limits.{IsSmallCut};
 
-use roster_model::{ArcKey, Cut, Side};
+use model_rosters::{ArcKey, Cut, Side};
 
 /// Returns the least count that the cuts leave an arc.
 pub fn low(cuts: &[Cut], arc: &ArcKey) -> u32

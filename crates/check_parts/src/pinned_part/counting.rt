@@ -1,15 +1,15 @@
 //! An arc, counted at its places.
 
 ghost use Rattle.std.specs.Prelude.{ℕ, ◌≡◌, ◌≤◌, ◌<◌, ◌+ℤ◌, ◌-ℤ◌, ◌^◌, pos, IfSome, length, map, slice_index_or, slice_set};
-ghost use Rattle.roster_model.specs.Grammar.{InDay};
-ghost use Rattle.roster_model.specs.Sound.{IsSound, Exists};
-ghost use Rattle.roster_model.specs.arc_laws.OrNodes.{made, symbol_node, used};
-ghost use Rattle.span_arcs.specs.Shapes.{IsSplit};
+ghost use Rattle.model_rosters.specs.Grammar.{InDay};
+ghost use Rattle.model_rosters.specs.Sound.{IsSound, Exists};
+ghost use Rattle.model_rosters.specs.arc_laws.OrNodes.{made, symbol_node, used};
+ghost use Rattle.tree_span_arcs.specs.Shapes.{IsSplit};
 ghost use Rattle.check_parts.specs.pinned_part.Places.{node_place, place_count};
 ghost use Rattle.check_parts.specs.pinned_part.Net.{IsCounted, size_at, one_or_two};
 
 use crate::pinned_part::places::{letter_place, name_place, suffix_place};
-use roster_model::{ArcKey, Grammar, Sym, rule_of};
+use model_rosters::{ArcKey, Grammar, Sym, rule_of};
 
 // The place of the node that an arc makes.
 fn made_place(grammar: &Grammar, arc: &ArcKey) -> usize

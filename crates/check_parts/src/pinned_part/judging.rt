@@ -1,13 +1,13 @@
 //! Whether the numbers at the places balance, and the count of the root.
 
 ghost use Rattle.std.specs.Prelude.{◌≡◌, ◌≢◌, ◌≤◌, ◌<◌, ◌↔◌, IsTrue, MatchOption, length};
-ghost use Rattle.roster_model.specs.Sound.{IsSound};
-ghost use Rattle.roster_model.specs.arc_laws.OrNodes.{root_of};
+ghost use Rattle.model_rosters.specs.Sound.{IsSound};
+ghost use Rattle.model_rosters.specs.arc_laws.OrNodes.{root_of};
 ghost use Rattle.check_parts.specs.pinned_part.Places.{node_place, place_count};
 ghost use Rattle.check_parts.specs.pinned_part.Net.{AreZero, IsWithinHeads, size_at};
 
 use crate::pinned_part::places::{name_place, node_count};
-use roster_model::{Grammar, Instance};
+use model_rosters::{Grammar, Instance};
 
 /// Returns the place of the start name on the whole day.
 pub fn root_place(grammar: &Grammar) -> usize

@@ -1,15 +1,15 @@
 //! The first loose arc.
 
 ghost use Rattle.std.specs.Prelude.{◌<◌, ◌↔◌, All, IsTrue, MatchOption};
-ghost use Rattle.roster_model.specs.SoundInstance.{IsSoundInstance};
-ghost use Rattle.roster_model.specs.arc_laws.Loose.{IsLoose, IsFirstLoose};
-ghost use Rattle.bound_laws.specs.Pinned.{IsPinned};
-ghost use Rattle.span_arcs.specs.DayArcs.{IsDayArcsOf};
-ghost use Rattle.roster_model.specs.Limits.{IsSmallCut};
+ghost use Rattle.model_rosters.specs.SoundInstance.{IsSoundInstance};
+ghost use Rattle.model_rosters.specs.arc_laws.Loose.{IsLoose, IsFirstLoose};
+ghost use Rattle.law_bounds.specs.Pinned.{IsPinned};
+ghost use Rattle.tree_span_arcs.specs.DayArcs.{IsDayArcsOf};
+ghost use Rattle.model_rosters.specs.Limits.{IsSmallCut};
 
 use crate::pinned_part::bounds::{high, low};
-use roster_model::{ArcKey, Cut, Instance};
-use span_arcs::DayArcs;
+use model_rosters::{ArcKey, Cut, Instance};
+use tree_span_arcs::DayArcs;
 
 // Whether the cuts leave an arc more than one count.
 fn is_loose(instance: &Instance, cuts: &[Cut], arc: &ArcKey) -> bool

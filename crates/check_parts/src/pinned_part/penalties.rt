@@ -1,17 +1,17 @@
 //! The penalties of the cells.
 
 ghost use Rattle.std.specs.Prelude.{◌≡◌, ◌≤◌, ◌*◌, ◌↔◌, All, IsTrue, MatchOption, length};
-ghost use Rattle.roster_model.specs.declared.instance.Cell.{Cell as DayCell};
-ghost use Rattle.roster_model.specs.Coverage.{penalty, IsWithinCell};
-ghost use Rattle.roster_model.specs.Folds.{sum_n, Each};
-ghost use Rattle.roster_model.specs.Limits.{IsDayCell};
-ghost use Rattle.roster_model.specs.Sound.{IsSound};
+ghost use Rattle.model_rosters.specs.declared.instance.Cell.{Cell as DayCell};
+ghost use Rattle.model_rosters.specs.Coverage.{penalty, IsWithinCell};
+ghost use Rattle.model_rosters.specs.Folds.{sum_n, Each};
+ghost use Rattle.model_rosters.specs.Limits.{IsDayCell};
+ghost use Rattle.model_rosters.specs.Sound.{IsSound};
 ghost use Rattle.check_parts.specs.pinned_part.Places.{place_count};
 ghost use Rattle.check_parts.specs.pinned_part.Net.{cell_size};
 
 use crate::pinned_part::judging::size_at;
 use crate::pinned_part::places::letter_place;
-use roster_model::{Cell, Grammar, penalty};
+use model_rosters::{Cell, Grammar, penalty};
 
 // Whether a count is within a cell's floor and ceiling.
 fn is_within(cell: &Cell, count: u64) -> bool

@@ -1,13 +1,13 @@
 //! The place of each name, suffix and letter.
 
 ghost use Rattle.std.specs.Prelude.{◌≡◌, ◌≤◌, ◌<◌, ◌+◌, ◌-◌, ◌*◌, ◌^◌, length};
-ghost use Rattle.roster_model.specs.Grammar.{InDay};
-ghost use Rattle.roster_model.specs.Sound.{IsSound};
-ghost use Rattle.roster_model.specs.arc_laws.OrNodes.{name as name_node, suffix as suffix_node, leaf as leaf_node};
+ghost use Rattle.model_rosters.specs.Grammar.{InDay};
+ghost use Rattle.model_rosters.specs.Sound.{IsSound};
+ghost use Rattle.model_rosters.specs.arc_laws.OrNodes.{name as name_node, suffix as suffix_node, leaf as leaf_node};
 ghost use Rattle.check_parts.specs.pinned_part.Places.{width, node_count, place_count, span_place, node_place, IsPlaced};
 
-use roster_model::Grammar;
-use span_cells::SpanIndex;
+use model_rosters::Grammar;
+use tree_span_cells::SpanIndex;
 
 // How many names and suffixes have places on each span.
 fn width(grammar: &Grammar) -> usize

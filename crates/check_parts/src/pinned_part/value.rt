@@ -1,14 +1,14 @@
 //! What pinned counts cost.
 
 ghost use Rattle.std.specs.Prelude.{◌≡◌, ◌≤◌, ◌*◌, All, MatchOption, length};
-ghost use Rattle.roster_model.specs.declared.grammar.Grammar.{Grammar as Rules};
-ghost use Rattle.roster_model.specs.declared.instance.Cell.{Cell as DayCell};
-ghost use Rattle.roster_model.specs.Coverage.{penalty};
-ghost use Rattle.roster_model.specs.Folds.{sum_n};
-ghost use Rattle.roster_model.specs.SoundInstance.{IsSoundInstance};
-ghost use Rattle.bound_laws.specs.Pinned.{IsPinnedValue};
-ghost use Rattle.span_arcs.specs.DayArcs.{IsDayArcsOf};
-ghost use Rattle.roster_model.specs.Limits.{IsSmallCut};
+ghost use Rattle.model_rosters.specs.declared.grammar.Grammar.{Grammar as Rules};
+ghost use Rattle.model_rosters.specs.declared.instance.Cell.{Cell as DayCell};
+ghost use Rattle.model_rosters.specs.Coverage.{penalty};
+ghost use Rattle.model_rosters.specs.Folds.{sum_n};
+ghost use Rattle.model_rosters.specs.SoundInstance.{IsSoundInstance};
+ghost use Rattle.law_bounds.specs.Pinned.{IsPinnedValue};
+ghost use Rattle.tree_span_arcs.specs.DayArcs.{IsDayArcsOf};
+ghost use Rattle.model_rosters.specs.Limits.{IsSmallCut};
 ghost use Rattle.check_parts.specs.pinned_part.Net.{AreAllowed, cell_size};
 ghost use Rattle.check_parts.specs.pinned_part.Places.{place_count};
 ghost use Rattle.check_parts.specs.pinned_part.Rooms.{IsRoomFor};
@@ -17,8 +17,8 @@ use crate::pinned_part::balances::Balances;
 use crate::pinned_part::judging::{are_heads, are_zero};
 use crate::pinned_part::penalties::penalties;
 use crate::pinned_part::walk::count_arcs;
-use roster_model::{Cut, Instance, greatest_cost};
-use span_arcs::DayArcs;
+use model_rosters::{Cut, Instance, greatest_cost};
+use tree_span_arcs::DayArcs;
 
 /// Returns the penalties of the cells at the numbers at the places, `None` exactly where these are the
 /// numbers of no allowed roster: where a name or suffix but the root is not balanced, the root's

@@ -1,18 +1,18 @@
 //! All arcs, counted and paid.
 
 ghost use Rattle.std.specs.Prelude.{ℕ, ◌≡◌, ◌≤◌, ◌<◌, ◌*◌, ◌^◌, pos, All, length, slice_index_or};
-ghost use Rattle.roster_model.specs.Sound.{IsSound};
-ghost use Rattle.roster_model.specs.arc_laws.Counts.{top_cost};
-ghost use Rattle.span_arcs.specs.DayArcs.{IsDayArcsOf};
-ghost use Rattle.span_arcs.specs.Shapes.{IsSplit};
+ghost use Rattle.model_rosters.specs.Sound.{IsSound};
+ghost use Rattle.model_rosters.specs.arc_laws.Counts.{top_cost};
+ghost use Rattle.tree_span_arcs.specs.DayArcs.{IsDayArcsOf};
+ghost use Rattle.tree_span_arcs.specs.Shapes.{IsSplit};
 ghost use Rattle.check_parts.specs.pinned_part.Places.{place_count};
-ghost use Rattle.roster_model.specs.Limits.{IsSmallCut};
+ghost use Rattle.model_rosters.specs.Limits.{IsSmallCut};
 ghost use Rattle.check_parts.specs.pinned_part.Counted.{AreCounted};
 
 use crate::pinned_part::bounds::low;
 use crate::pinned_part::counting::count_arc;
-use roster_model::{ArcKey, Cut, Grammar, rule_of};
-use span_arcs::DayArcs;
+use model_rosters::{ArcKey, Cut, Grammar, rule_of};
+use tree_span_arcs::DayArcs;
 
 /// Returns the cost of the arc's rule where it is the arc of the whole right side, and otherwise 0.
 pub fn arc_cost(grammar: &Grammar, arc: &ArcKey) -> u32

@@ -1,13 +1,13 @@
 //! Which names derive a word of the day.
 
 ghost use Rattle.std.specs.Prelude.{◌<◌, ◌↔◌, IsTrue, length};
-ghost use Rattle.roster_model.specs.Sound.{IsSound};
-ghost use Rattle.roster_model.specs.Trees.{Parts, IsTreeOf};
-ghost use Rattle.span_table.specs.Tables.{IsMadeFor};
+ghost use Rattle.model_rosters.specs.Sound.{IsSound};
+ghost use Rattle.model_rosters.specs.Trees.{Parts, IsTreeOf};
+ghost use Rattle.tree_span_table.specs.Tables.{IsMadeFor};
 ghost use Rattle.check_parts.specs.priced_part.Filled.{IsFilledForAll, TellsDerived};
 
-use roster_model::Grammar;
-use span_table::Table;
+use model_rosters::Grammar;
+use tree_span_table::Table;
 
 /// How many names a grammar has at most.
 const MOST_NAMES: usize = 33;

@@ -1,15 +1,15 @@
 //! Whether the head counts or a cell alone show that no roster is allowed.
 
 ghost use Rattle.std.specs.Prelude.{◌≡◌, ◌<◌, ◌↔◌, All, IsTrue, false, true, length, min, slice_index_or};
-ghost use Rattle.roster_model.specs.declared.instance.Cell.{Cell as Demanded};
-ghost use Rattle.roster_model.specs.declared.instance.Group.{Group as Members};
-ghost use Rattle.roster_model.specs.Folds.{In};
-ghost use Rattle.roster_model.specs.SoundInstance.{IsSoundInstance};
-ghost use Rattle.roster_model.specs.Teams.{Team};
-ghost use Rattle.bound_laws.specs.Infeasible.{IsUnstaffable, IsUnmeetable, IsPlainlyInfeasible};
+ghost use Rattle.model_rosters.specs.declared.instance.Cell.{Cell as Demanded};
+ghost use Rattle.model_rosters.specs.declared.instance.Group.{Group as Members};
+ghost use Rattle.model_rosters.specs.Folds.{In};
+ghost use Rattle.model_rosters.specs.SoundInstance.{IsSoundInstance};
+ghost use Rattle.model_rosters.specs.Teams.{Team};
+ghost use Rattle.law_bounds.specs.Infeasible.{IsUnstaffable, IsUnmeetable, IsPlainlyInfeasible};
 ghost use Rattle.check_parts.specs.priced_part.Filled.{NeedsInVain, TellsDerived};
 
-use roster_model::{Cell, Instance};
+use model_rosters::{Cell, Instance};
 
 /// Returns whether a team of this name that needs so many employees needs some, and the list tells
 /// that the name derives no word of the day.

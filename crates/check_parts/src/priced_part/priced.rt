@@ -1,21 +1,21 @@
 //! What prices show.
 
 ghost use Rattle.std.specs.Prelude.{◌≡◌, ◌≤◌, ◌^◌, ◌+◌, min, All, IfSome, length};
-ghost use Rattle.roster_model.specs.declared.grammar.Grammar.{Grammar as Rules};
-ghost use Rattle.roster_model.specs.PriceLimits.{FitPrices};
-ghost use Rattle.roster_model.specs.PriceRooms.{IsRoomFor};
-ghost use Rattle.roster_model.specs.SoundInstance.{IsSoundInstance};
-ghost use Rattle.roster_model.specs.Sums.{Within};
-ghost use Rattle.bound_laws.specs.Lagrangian.{IsLeastReduced};
-ghost use Rattle.bound_laws.specs.Priced.{rounded_up, IsPricedValue};
-ghost use Rattle.span_table.specs.Tables.{IsMadeFor};
+ghost use Rattle.model_rosters.specs.declared.grammar.Grammar.{Grammar as Rules};
+ghost use Rattle.model_rosters.specs.PriceLimits.{FitPrices};
+ghost use Rattle.model_rosters.specs.PriceRooms.{IsRoomFor};
+ghost use Rattle.model_rosters.specs.SoundInstance.{IsSoundInstance};
+ghost use Rattle.model_rosters.specs.Sums.{Within};
+ghost use Rattle.law_bounds.specs.Lagrangian.{IsLeastReduced};
+ghost use Rattle.law_bounds.specs.Priced.{rounded_up, IsPricedValue};
+ghost use Rattle.tree_span_table.specs.Tables.{IsMadeFor};
 ghost use Rattle.check_parts.specs.priced_part.Filled.{IsFilledForAll, TellsDerived};
 
 use crate::priced_part::derived::derived_names;
 use crate::priced_part::infeasible::is_plainly_infeasible;
 use crate::priced_part::shares::lagrangian_sum;
-use roster_model::{Cut, Instance, Mult, PriceRoom, greatest_cost};
-use span_table::Table;
+use model_rosters::{Cut, Instance, Mult, PriceRoom, greatest_cost};
+use tree_span_table::Table;
 
 /// Returns what prices show at a list of cuts: no roster whose trees meet the cuts costs less. It
 /// is one more than the greatest cost where they show that there is no such roster. Takes no memory.

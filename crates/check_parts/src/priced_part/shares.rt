@@ -1,16 +1,16 @@
 //! What the trees, the cells and the cuts bring to a value.
 
 ghost use Rattle.std.specs.Prelude.{◌≡◌, ◌≤◌, ◌*◌, ◌^◌, ◌*ℤ◌, pos, All, IfSome, length};
-ghost use Rattle.roster_model.specs.Coverage.{penalty};
-ghost use Rattle.roster_model.specs.Folds.{sum_z};
-ghost use Rattle.roster_model.specs.Limits.{IsLimitedCell};
-ghost use Rattle.roster_model.specs.PriceLimits.{IsMult, AreRising, FitPrices, nonzero};
-ghost use Rattle.roster_model.specs.Reduced.{cell_prices, cut_prices};
-ghost use Rattle.roster_model.specs.SoundInstance.{IsSoundInstance};
-ghost use Rattle.roster_model.specs.Sums.{Within};
-ghost use Rattle.bound_laws.specs.Lagrangian.{trees_share, cell_at, cell_share, share_of, cut_share, lagrangian_sum};
+ghost use Rattle.model_rosters.specs.Coverage.{penalty};
+ghost use Rattle.model_rosters.specs.Folds.{sum_z};
+ghost use Rattle.model_rosters.specs.Limits.{IsLimitedCell};
+ghost use Rattle.model_rosters.specs.PriceLimits.{IsMult, AreRising, FitPrices, nonzero};
+ghost use Rattle.model_rosters.specs.Reduced.{cell_prices, cut_prices};
+ghost use Rattle.model_rosters.specs.SoundInstance.{IsSoundInstance};
+ghost use Rattle.model_rosters.specs.Sums.{Within};
+ghost use Rattle.law_bounds.specs.Lagrangian.{trees_share, cell_at, cell_share, share_of, cut_share, lagrangian_sum};
 
-use roster_model::{Cell, Cut, Instance, Mult, Side, penalty};
+use model_rosters::{Cell, Cut, Instance, Mult, Side, penalty};
 
 /// Returns the least that the trees of a roster bring, of at least `fewest` and at most `most`
 /// trees, each at least the least reduced cost; 0 where the day has no tree.

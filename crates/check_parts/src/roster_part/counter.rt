@@ -1,14 +1,14 @@
 //! How many words have a letter, period by period.
 
 ghost use Rattle.std.specs.Prelude.{◌≡◌, ◌≤◌, ℕ, ◌+◌, ◌-◌, ◌<◌, ◌^◌, All, None, Some, cond, length, slice_index};
-ghost use Rattle.roster_model.specs.Coverage.{covered, code_byte, has_at};
-ghost use Rattle.roster_model.specs.Limits.{IsDayCell};
-ghost use Rattle.certificates.specs.RosterCauses.{duties};
+ghost use Rattle.model_rosters.specs.Coverage.{covered, code_byte, has_at};
+ghost use Rattle.model_rosters.specs.Limits.{IsDayCell};
+ghost use Rattle.check_certificates.specs.RosterCauses.{duties};
 ghost use Rattle.check_parts.specs.roster_part.Counters.{AreCounts, IsCounterFor};
 
 use crate::roster_part::stated::StatedShift;
-use lane_min::add_matches;
-use roster_model::{Cell, Grammar};
+use check_lanes::add_matches;
+use model_rosters::{Cell, Grammar};
 
 /// The periods of the longest day.
 const MOST_PERIODS: usize = 96;

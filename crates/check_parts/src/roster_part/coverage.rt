@@ -1,16 +1,16 @@
 //! The first cell outside its range.
 
 ghost use Rattle.std.specs.Prelude.{◌≤◌, MatchOption, length};
-ghost use Rattle.roster_model.specs.Coverage.{covered, IsWithinCell};
-ghost use Rattle.roster_model.specs.Folds.{Each};
-ghost use Rattle.roster_model.specs.SoundInstance.{IsSoundInstance};
-ghost use Rattle.certificates.specs.RosterCauses.{duties};
+ghost use Rattle.model_rosters.specs.Coverage.{covered, IsWithinCell};
+ghost use Rattle.model_rosters.specs.Folds.{Each};
+ghost use Rattle.model_rosters.specs.SoundInstance.{IsSoundInstance};
+ghost use Rattle.check_certificates.specs.RosterCauses.{duties};
 ghost use Rattle.check_parts.specs.roster_part.Faults.{IsCoverageCause};
 
 use crate::roster_part::counter::{Counter, code_byte};
 use crate::roster_part::stated::StatedShift;
-use certificates::Why;
-use roster_model::Instance;
+use check_certificates::Why;
+use model_rosters::Instance;
 
 /// Returns the first cell whose coverage is outside its floor and ceiling, and `None` where each
 /// cell's coverage is within them. Takes no memory. There are at most 64 shifts.

@@ -1,21 +1,21 @@
 //! The price of a shift, and the first shift at another one.
 
 ghost use Rattle.std.specs.Prelude.{◌≡◌, ◌≢◌, ◌≤◌, IsTrue, MatchOption, length};
-ghost use Rattle.roster_model.specs.declared.grammar.Grammar.{Grammar as Rules};
-ghost use Rattle.roster_model.specs.Duties.{duty};
-ghost use Rattle.roster_model.specs.Folds.{Each};
-ghost use Rattle.roster_model.specs.Rosters.{ArePrices, IsTeamPrice};
-ghost use Rattle.roster_model.specs.SoundInstance.{IsSoundInstance};
-ghost use Rattle.certificates.specs.RosterCauses.{duties, IsNoShift, stated_prices};
-ghost use Rattle.certificates.specs.Sound.{IsGroupNumber, IsSoundShift};
-ghost use Rattle.span_table.specs.Tables.{IsMadeFor};
+ghost use Rattle.model_rosters.specs.declared.grammar.Grammar.{Grammar as Rules};
+ghost use Rattle.model_rosters.specs.Duties.{duty};
+ghost use Rattle.model_rosters.specs.Folds.{Each};
+ghost use Rattle.model_rosters.specs.Rosters.{ArePrices, IsTeamPrice};
+ghost use Rattle.model_rosters.specs.SoundInstance.{IsSoundInstance};
+ghost use Rattle.check_certificates.specs.RosterCauses.{duties, IsNoShift, stated_prices};
+ghost use Rattle.check_certificates.specs.Sound.{IsGroupNumber, IsSoundShift};
+ghost use Rattle.tree_span_table.specs.Tables.{IsMadeFor};
 ghost use Rattle.check_parts.specs.roster_part.Faults.{IsPriceBefore, IsPriceCause};
 
 use crate::roster_part::stated::StatedShift;
 use crate::roster_part::team::team_name;
-use certificates::Why;
-use roster_model::{Instance, WordPrices};
-use span_table::Table;
+use check_certificates::Why;
+use model_rosters::{Instance, WordPrices};
+use tree_span_table::Table;
 
 /// Returns the price of the shift's word as one of its team, or `None` where it is none. The shift's own
 /// price does not matter. The table was made for the instance's grammar. Takes no memory.

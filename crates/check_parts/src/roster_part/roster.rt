@@ -1,21 +1,21 @@
 //! The first cause on a stated roster.
 
 ghost use Rattle.std.specs.Prelude.{◌≡◌, ◌≢◌, ◌≤◌, MatchOption, length};
-ghost use Rattle.roster_model.specs.declared.grammar.Grammar.{Grammar as Rules};
-ghost use Rattle.roster_model.specs.Folds.{Each};
-ghost use Rattle.roster_model.specs.SoundInstance.{IsSoundInstance};
-ghost use Rattle.roster_model.specs.Rosters.{roster_cost};
-ghost use Rattle.certificates.specs.RosterCauses.{duties, stated_prices};
-ghost use Rattle.certificates.specs.Sound.{IsSoundShift};
-ghost use Rattle.span_table.specs.Tables.{IsMadeFor};
+ghost use Rattle.model_rosters.specs.declared.grammar.Grammar.{Grammar as Rules};
+ghost use Rattle.model_rosters.specs.Folds.{Each};
+ghost use Rattle.model_rosters.specs.SoundInstance.{IsSoundInstance};
+ghost use Rattle.model_rosters.specs.Rosters.{roster_cost};
+ghost use Rattle.check_certificates.specs.RosterCauses.{duties, stated_prices};
+ghost use Rattle.check_certificates.specs.Sound.{IsSoundShift};
+ghost use Rattle.tree_span_table.specs.Tables.{IsMadeFor};
 ghost use Rattle.check_parts.specs.roster_part.Faults.{IsRightlyStated, IsRosterCause};
 
 use crate::roster_part::prices::price_fault;
 use crate::roster_part::stated::StatedShift;
 use crate::roster_part::totals::{heads_fault, stated_cost};
-use certificates::Why;
-use roster_model::Instance;
-use span_table::Table;
+use check_certificates::Why;
+use model_rosters::Instance;
+use tree_span_table::Table;
 
 /// Returns the first cause for which a roster is not stated rightly, and `None` where each word is a
 /// shift of its team at its stated price, each team has as many shifts as it may, and the roster

@@ -2,7 +2,7 @@
 
 ghost use Rattle.std.specs.Prelude.{◌≡◌, ◌≤◌, [], IfOk, length};
 
-use roster_model::Memory;
+use model_rosters::Memory;
 use std::alloc::Global;
 use std::marker::Model;
 
@@ -20,7 +20,7 @@ pub struct StatedShift {
 
 impl Model for StatedShift {
     ghost use Rattle.std.specs.Prelude.{◌≤◌, vec_capacity};
-    ghost use Rattle.roster_model.specs.declared.instance.Shift.{Shift};
+    ghost use Rattle.model_rosters.specs.declared.instance.Shift.{Shift};
 
     ghost Value = { Shift };
 

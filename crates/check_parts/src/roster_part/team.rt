@@ -1,12 +1,12 @@
 //! Teams and their names.
 
 ghost use Rattle.std.specs.Prelude.{◌≡◌, ◌<◌, Some, length, slice_get};
-ghost use Rattle.roster_model.specs.SoundInstance.{IsSoundInstance};
-ghost use Rattle.roster_model.specs.Teams.{teams};
-ghost use Rattle.certificates.specs.Sound.{IsGroupNumber};
+ghost use Rattle.model_rosters.specs.SoundInstance.{IsSoundInstance};
+ghost use Rattle.model_rosters.specs.Teams.{teams};
+ghost use Rattle.check_certificates.specs.Sound.{IsGroupNumber};
 ghost use Rattle.check_parts.specs.roster_part.TeamViews.{team_view, IsTeamName};
 
-use roster_model::Instance;
+use model_rosters::Instance;
 
 /// Employees whose words one name derives.
 #[derive(Clone, Copy, Drop)]

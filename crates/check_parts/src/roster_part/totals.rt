@@ -1,21 +1,21 @@
 //! How many shifts a team has, and what the roster costs.
 
 ghost use Rattle.std.specs.Prelude.{◌≡◌, ◌≤◌, ◌*◌, ◌^◌, MatchOption, All, length, nat_eq, count_by};
-ghost use Rattle.roster_model.specs.Coverage.{covered, penalty};
-ghost use Rattle.roster_model.specs.Folds.{Each, sum_n};
-ghost use Rattle.roster_model.specs.Limits.{IsDayCell};
-ghost use Rattle.roster_model.specs.Rosters.{HasHeads, roster_cost};
-ghost use Rattle.roster_model.specs.SoundInstance.{IsSoundInstance};
-ghost use Rattle.roster_model.specs.Teams.{teams};
-ghost use Rattle.certificates.specs.RosterCauses.{duties, stated_prices};
-ghost use Rattle.certificates.specs.Sound.{IsSoundShift};
+ghost use Rattle.model_rosters.specs.Coverage.{covered, penalty};
+ghost use Rattle.model_rosters.specs.Folds.{Each, sum_n};
+ghost use Rattle.model_rosters.specs.Limits.{IsDayCell};
+ghost use Rattle.model_rosters.specs.Rosters.{HasHeads, roster_cost};
+ghost use Rattle.model_rosters.specs.SoundInstance.{IsSoundInstance};
+ghost use Rattle.model_rosters.specs.Teams.{teams};
+ghost use Rattle.check_certificates.specs.RosterCauses.{duties, stated_prices};
+ghost use Rattle.check_certificates.specs.Sound.{IsSoundShift};
 ghost use Rattle.check_parts.specs.roster_part.Faults.{IsHeadsCause};
 
 use crate::roster_part::counter::Counter;
 use crate::roster_part::stated::StatedShift;
 use crate::roster_part::team::{team_at, team_count};
-use certificates::Why;
-use roster_model::{Cell, Grammar, Instance, penalty};
+use check_certificates::Why;
+use model_rosters::{Cell, Grammar, Instance, penalty};
 
 /// Returns how many of the shifts are of the team of a number.
 fn members(shifts: &[StatedShift], number: u8) -> usize

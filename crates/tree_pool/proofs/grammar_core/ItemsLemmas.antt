@@ -2,17 +2,17 @@
 use Rattle.std.proofs.Common.{◌≡◌, ℕ, ◌<◌, ◌≤◌, ◌+◌, List, [], ◌∷◌, ◌++◌, Some, arith, subst, sym, ap, ◌∙◌, ◌⊎◌, inl, inr, length, length-append}
 use Rattle.std.specs.Prelude.{slice_get}
 use Rattle.std.proofs.lemmas.Option.{same_Some, slice_get_within}
-use Rattle.roster_model.specs.declared.grammar.Grammar.{Grammar}
-use Rattle.roster_model.specs.declared.grammar.Rule.{Rule}
-use Rattle.roster_model.specs.declared.grammar.Sym.{Sym}
-use Rattle.roster_model.specs.Grammar.{rule_at}
-use Rattle.roster_model.proofs.tree_laws.Rules.{rule_at-within}
+use Rattle.model_rosters.specs.declared.grammar.Grammar.{Grammar}
+use Rattle.model_rosters.specs.declared.grammar.Rule.{Rule}
+use Rattle.model_rosters.specs.declared.grammar.Sym.{Sym}
+use Rattle.model_rosters.specs.Grammar.{rule_at}
+use Rattle.model_rosters.proofs.tree_laws.Rules.{rule_at-within}
 use Rattle.tree_pool.specs.declared.grammar_core.normal.Item.{Item}
 use Rattle.tree_pool.specs.declared.grammar_core.normal.Second.{Second}
 use Rattle.tree_pool.specs.declared.grammar_core.normal.Second.TheVariants.{Nothing, One, Rest}
 use Rattle.tree_pool.specs.grammar_core.Items.{item_count, Follows, IsItem, ItemBefore, AreItems}
 use Rattle.tree_pool.specs.grammar_core.Adding.{Continues, IsItemOf, AddsItems, ItemsOfFirst}
-use Rattle.roster_model.proofs.tree_laws.ListPushes.{push-kept, push-here, push-cases}
+use Rattle.model_rosters.proofs.tree_laws.ListPushes.{push-kept, push-here, push-cases}
 
 -- no item yet
 pub adds-init : (r : ℕ) (right : List Sym) (old : List Item) → AddsItems r right 0 old old

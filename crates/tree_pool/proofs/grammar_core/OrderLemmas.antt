@@ -2,12 +2,12 @@
 use Rattle.std.proofs.Common.{◌≡◌, ◌≢◌, ℕ, ◌<◌, ◌≤◌, ◌+◌, List, [], ◌∷◌, ◌++◌, Some, arith, subst, sym, ap, ◌∙◌, ◌⊎◌, inl, inr, length}
 use Rattle.std.specs.Prelude.{slice_get, slice_index}
 use Rattle.std.proofs.lemmas.Option.{slice_get_within}
-use Rattle.roster_model.specs.declared.grammar.Grammar.{Grammar}
-use Rattle.roster_model.specs.UnitRules.{IsRanked}
+use Rattle.model_rosters.specs.declared.grammar.Grammar.{Grammar}
+use Rattle.model_rosters.specs.UnitRules.{IsRanked}
 use Rattle.tree_pool.specs.grammar_core.Items.{IsOrder}
 use Rattle.tree_pool.specs.grammar_core.Adding.{AreOrdered}
-use Rattle.roster_model.proofs.tree_laws.ListPushes.{push-kept, push-here, push-cases}
-use Rattle.roster_model.specs.tree_laws.RankOrder.{IsPlaced, IsDone}
+use Rattle.model_rosters.proofs.tree_laws.ListPushes.{push-kept, push-here, push-cases}
+use Rattle.model_rosters.specs.tree_laws.RankOrder.{IsPlaced, IsDone}
 
 -- no name yet
 pub order-init : (ranks : List ℕ) (names : ℕ) (done : ℕ → Type 0) → ((x : ℕ) → x < names → done x → ⊥) → AreOrdered ranks names done []

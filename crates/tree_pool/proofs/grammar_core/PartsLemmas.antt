@@ -3,12 +3,12 @@ use Rattle.std.proofs.Common.{◌≡◌, ℕ, zero, suc, ◌<◌, ◌≤◌, ◌
 use Rattle.std.proofs.Math.Dec.{eqb-suc-zero}
 use Rattle.std.proofs.lemmas.Bool.{lt-ltb, le-ltb}
 use Rattle.std.proofs.lemmas.List.{append-nil}
-use Rattle.roster_model.specs.declared.grammar.Grammar.{Grammar}
-use Rattle.roster_model.specs.declared.grammar.Sym.{Sym}
-use Rattle.roster_model.specs.declared.grammar.Sym.TheVariants.{Code, Name}
-use Rattle.roster_model.specs.Trees.{Parts, done, letter, uses, span_length, Derive, On, steps}
-use Rattle.roster_model.specs.Arcs.{arcs, parts_arcs, arc_of_part}
-use Rattle.roster_model.specs.tree_laws.Laws.{arc_at}
+use Rattle.model_rosters.specs.declared.grammar.Grammar.{Grammar}
+use Rattle.model_rosters.specs.declared.grammar.Sym.{Sym}
+use Rattle.model_rosters.specs.declared.grammar.Sym.TheVariants.{Code, Name}
+use Rattle.model_rosters.specs.Trees.{Parts, done, letter, uses, span_length, Derive, On, steps}
+use Rattle.model_rosters.specs.Arcs.{arcs, parts_arcs, arc_of_part}
+use Rattle.model_rosters.specs.tree_laws.Laws.{arc_at}
 use Rattle.tree_pool.specs.grammar_core.Walks.{has_arc, own_arcs}
 
 -- no last part of several has an arc

@@ -3,19 +3,19 @@ use Rattle.std.proofs.Common.{◌≡◌, ℕ, zero, suc, ◌<◌, ◌≤◌, ◌
 use Rattle.std.proofs.lemmas.Bool.{ltb-false}
 use Rattle.std.proofs.lemmas.List.{append-nil, drop_all}
 use Rattle.std.proofs.lemmas.Option.{same_Some}
-use Rattle.roster_model.specs.declared.grammar.ArcKey.{ArcKey}
-use Rattle.roster_model.specs.declared.grammar.Grammar.{Grammar}
-use Rattle.roster_model.specs.declared.grammar.Rule.{Rule}
-use Rattle.roster_model.specs.declared.grammar.Step.{Step}
-use Rattle.roster_model.specs.declared.grammar.Sym.{Sym}
-use Rattle.roster_model.specs.declared.grammar.Sym.TheVariants.{Code, Name}
-use Rattle.roster_model.specs.Grammar.{rule_at}
-use Rattle.roster_model.specs.Sound.{IsSound}
-use Rattle.roster_model.specs.Trees.{Parts, done, letter, uses, Derive, On, steps}
-use Rattle.roster_model.specs.Arcs.{arcs, parts_arcs}
-use Rattle.roster_model.specs.tree_laws.Laws.{arc_at}
-use Rattle.roster_model.proofs.tree_laws.Rules.{sound-rule}
-use Rattle.roster_model.proofs.tree_laws.ListPushes.{same_head}
+use Rattle.model_rosters.specs.declared.grammar.ArcKey.{ArcKey}
+use Rattle.model_rosters.specs.declared.grammar.Grammar.{Grammar}
+use Rattle.model_rosters.specs.declared.grammar.Rule.{Rule}
+use Rattle.model_rosters.specs.declared.grammar.Step.{Step}
+use Rattle.model_rosters.specs.declared.grammar.Sym.{Sym}
+use Rattle.model_rosters.specs.declared.grammar.Sym.TheVariants.{Code, Name}
+use Rattle.model_rosters.specs.Grammar.{rule_at}
+use Rattle.model_rosters.specs.Sound.{IsSound}
+use Rattle.model_rosters.specs.Trees.{Parts, done, letter, uses, Derive, On, steps}
+use Rattle.model_rosters.specs.Arcs.{arcs, parts_arcs}
+use Rattle.model_rosters.specs.tree_laws.Laws.{arc_at}
+use Rattle.model_rosters.proofs.tree_laws.Rules.{sound-rule}
+use Rattle.model_rosters.proofs.tree_laws.ListPushes.{same_head}
 use Rattle.tree_pool.specs.declared.grammar_core.suffix.Suffix.{Suffix}
 use Rattle.tree_pool.specs.grammar_core.Walks.{has_arc, AsksTree, AsksParts, TurnsTree, TurnsParts}
 use Rattle.tree_pool.proofs.grammar_core.PartsLemmas.{Split}

@@ -1,9 +1,9 @@
 -- The steps by which a normal form is made.
 use Rattle.std.specs.Prelude.{ℕ, ◌≡◌, ◌+◌, ◌*◌, ◌<◌, ◌≤◌, ◌⊎◌, List, Some, length, slice_get, slice_index}
-use Rattle.roster_model.specs.declared.grammar.Grammar.{Grammar}
-use Rattle.roster_model.specs.declared.grammar.Rule.{Rule}
-use Rattle.roster_model.specs.declared.grammar.Sym.{Sym}
-use Rattle.roster_model.specs.Grammar.{rule_at}
+use Rattle.model_rosters.specs.declared.grammar.Grammar.{Grammar}
+use Rattle.model_rosters.specs.declared.grammar.Rule.{Rule}
+use Rattle.model_rosters.specs.declared.grammar.Sym.{Sym}
+use Rattle.model_rosters.specs.Grammar.{rule_at}
 use Rattle.tree_pool.specs.declared.grammar_core.normal.Item.{Item}
 use Rattle.tree_pool.specs.declared.grammar_core.normal.Second.{Second}
 use Rattle.tree_pool.specs.declared.grammar_core.normal.Second.TheVariants.{Nothing, One, Rest}

@@ -1,12 +1,12 @@
 -- The two lists that tell a tree of some name on some span.
 use Rattle.std.specs.Prelude.{ℕ, ◌≡◌, List, [], ◌∷◌}
-use Rattle.roster_model.specs.declared.grammar.ArcKey.{ArcKey}
-use Rattle.roster_model.specs.declared.grammar.Grammar.{Grammar}
-use Rattle.roster_model.specs.declared.grammar.Step.{Step}
-use Rattle.roster_model.specs.declared.grammar.Sym.TheVariants.{Name}
-use Rattle.roster_model.specs.Trees.{Parts, On, steps}
-use Rattle.roster_model.specs.Arcs.{arcs}
-use Rattle.roster_model.specs.Sound.{IsSound}
+use Rattle.model_rosters.specs.declared.grammar.ArcKey.{ArcKey}
+use Rattle.model_rosters.specs.declared.grammar.Grammar.{Grammar}
+use Rattle.model_rosters.specs.declared.grammar.Step.{Step}
+use Rattle.model_rosters.specs.declared.grammar.Sym.TheVariants.{Name}
+use Rattle.model_rosters.specs.Trees.{Parts, On, steps}
+use Rattle.model_rosters.specs.Arcs.{arcs}
+use Rattle.model_rosters.specs.Sound.{IsSound}
 
 -- a tree of some name on a span that begins at period i
 pub record IsSpanTree (g : Grammar) (i : ℕ) (t : Parts) : Type 0 where

@@ -1,14 +1,14 @@
 -- What the walks down a tree ask, and what they do.
 use Rattle.std.specs.Prelude.{ℕ, ◌≡◌, ◌+◌, ◌-◌, ◌*◌, ◌≤◌, ◌||◌, min, nat_eq, nat_lt, Bool, cond, List, [], ◌∷◌, ◌++◌, Some, length, drop}
-use Rattle.roster_model.specs.declared.grammar.ArcKey.{ArcKey}
-use Rattle.roster_model.specs.declared.grammar.Grammar.{Grammar}
-use Rattle.roster_model.specs.declared.grammar.Rule.{Rule}
-use Rattle.roster_model.specs.declared.grammar.Step.{Step}
-use Rattle.roster_model.specs.declared.grammar.Sym.{Sym}
-use Rattle.roster_model.specs.declared.grammar.Sym.TheVariants.{Code, Name}
-use Rattle.roster_model.specs.Grammar.{rule_at}
-use Rattle.roster_model.specs.Trees.{Parts, On}
-use Rattle.roster_model.specs.Sound.{IsSound}
+use Rattle.model_rosters.specs.declared.grammar.ArcKey.{ArcKey}
+use Rattle.model_rosters.specs.declared.grammar.Grammar.{Grammar}
+use Rattle.model_rosters.specs.declared.grammar.Rule.{Rule}
+use Rattle.model_rosters.specs.declared.grammar.Step.{Step}
+use Rattle.model_rosters.specs.declared.grammar.Sym.{Sym}
+use Rattle.model_rosters.specs.declared.grammar.Sym.TheVariants.{Code, Name}
+use Rattle.model_rosters.specs.Grammar.{rule_at}
+use Rattle.model_rosters.specs.Trees.{Parts, On}
+use Rattle.model_rosters.specs.Sound.{IsSound}
 use Rattle.tree_pool.specs.declared.grammar_core.suffix.Suffix.{Suffix}
 
 -- whether the part at suffix k of m symbols has an arc: the last part has none, save where it is the only one

@@ -1,12 +1,12 @@
 //! The items of all rules.
 
 ghost use Rattle.std.specs.Prelude.{◌≡◌, ◌≤◌, ◌<◌, length, IfOk, OnOk};
-ghost use Rattle.roster_model.specs.Sound.{IsSound};
+ghost use Rattle.model_rosters.specs.Sound.{IsSound};
 ghost use Rattle.tree_pool.specs.grammar_core.Items.{item_count, AreItems};
 ghost use Rattle.tree_pool.specs.grammar_core.Adding.{AddsItems, Continues, IsItemOf};
 
 use crate::grammar_core::normal::{Item, Second};
-use roster_model::{Grammar, List, Memory, Sym, rule_of};
+use model_rosters::{Grammar, List, Memory, Sym, rule_of};
 use std::alloc::Global;
 
 // How many items a rule of so many symbols has.

@@ -1,12 +1,12 @@
 //! The normal form.
 
 ghost use Rattle.std.specs.Prelude.{IfOk};
-ghost use Rattle.roster_model.specs.Sound.{IsSound};
+ghost use Rattle.model_rosters.specs.Sound.{IsSound};
 ghost use Rattle.tree_pool.specs.grammar_core.Items.{IsNormal};
 
 use crate::grammar_core::items::items_of;
 use crate::grammar_core::order::order_of;
-use roster_model::{Grammar, List, Memory, Sym};
+use model_rosters::{Grammar, List, Memory, Sym};
 use std::alloc::Global;
 
 /// What follows the first symbol of an item.

@@ -1,12 +1,12 @@
 //! The order of the names.
 
 ghost use Rattle.std.specs.Prelude.{ℕ, ◌≡◌, ◌<◌, ◌≤◌, [], length, slice_index, IfOk, OnOk};
-ghost use Rattle.roster_model.specs.Sound.{IsSound};
+ghost use Rattle.model_rosters.specs.Sound.{IsSound};
 ghost use Rattle.tree_pool.specs.grammar_core.Items.{IsOrder};
-ghost use Rattle.roster_model.specs.tree_laws.RankOrder.{IsPlaced, IsDone};
+ghost use Rattle.model_rosters.specs.tree_laws.RankOrder.{IsPlaced, IsDone};
 ghost use Rattle.tree_pool.specs.grammar_core.Adding.{AreOrdered};
 
-use roster_model::{Grammar, List, Memory, unit_ranks};
+use model_rosters::{Grammar, List, Memory, unit_ranks};
 use std::alloc::Global;
 
 // Adds the names of a rank, of so many names.

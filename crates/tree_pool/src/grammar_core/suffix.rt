@@ -3,7 +3,7 @@
 ghost use Rattle.std.specs.Prelude.{◌≡◌, ◌+◌, ◌-◌, ◌<◌, ◌≤◌};
 ghost use Rattle.tree_pool.specs.grammar_core.Walks.{has_arc as has_own_arc};
 
-use roster_model::{ArcKey, Step};
+use model_rosters::{ArcKey, Step};
 
 /// A suffix of a rule's right side on a span.
 #[derive(Clone, Copy)]

@@ -1,15 +1,15 @@
 //! From steps to arcs.
 
 ghost use Rattle.std.specs.Prelude.{◌≡◌, ◌++◌, IfOk, OnOk};
-ghost use Rattle.roster_model.specs.Arcs.{arcs as arcs_of, parts_arcs};
-ghost use Rattle.roster_model.specs.Sound.{IsSound};
-ghost use Rattle.roster_model.specs.Trees.{steps as steps_of};
+ghost use Rattle.model_rosters.specs.Arcs.{arcs as arcs_of, parts_arcs};
+ghost use Rattle.model_rosters.specs.Sound.{IsSound};
+ghost use Rattle.model_rosters.specs.Trees.{steps as steps_of};
 ghost use Rattle.tree_pool.specs.grammar_core.Lists.{AreSteps, AreArcsOf};
 ghost use Rattle.tree_pool.specs.grammar_core.Walks.{next_len as len_of_next, own_arcs, AsksTree, AsksParts, TurnsTree, TurnsParts};
 
 use crate::grammar_core::cursor::Cursor;
 use crate::grammar_core::suffix::{Suffix, has_arc};
-use roster_model::{ArcKey, Grammar, List, Memory, Rule, Step, Sym, rule_of};
+use model_rosters::{ArcKey, Grammar, List, Memory, Rule, Step, Sym, rule_of};
 use std::alloc::Global;
 
 /// Returns the arcs of a tree in preorder from its steps: an arc, then the arcs of its first part,

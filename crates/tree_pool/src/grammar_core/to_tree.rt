@@ -1,16 +1,16 @@
 //! From arcs to steps.
 
 ghost use Rattle.std.specs.Prelude.{◌≡◌, ◌∷◌, List as Items, true, false, IfOk, OnOk};
-ghost use Rattle.roster_model.specs.declared.grammar.ArcKey.{ArcKey as Key};
-ghost use Rattle.roster_model.specs.Arcs.{arcs as arcs_of, parts_arcs};
-ghost use Rattle.roster_model.specs.Sound.{IsSound};
-ghost use Rattle.roster_model.specs.Trees.{steps as steps_of};
+ghost use Rattle.model_rosters.specs.declared.grammar.ArcKey.{ArcKey as Key};
+ghost use Rattle.model_rosters.specs.Arcs.{arcs as arcs_of, parts_arcs};
+ghost use Rattle.model_rosters.specs.Sound.{IsSound};
+ghost use Rattle.model_rosters.specs.Trees.{steps as steps_of};
 ghost use Rattle.tree_pool.specs.grammar_core.Lists.{AreArcs, AreStepsOf};
 ghost use Rattle.tree_pool.specs.grammar_core.Walks.{has_arc as has_own_arc, AsksTree, AsksParts, TurnsTree, TurnsParts};
 
 use crate::grammar_core::cursor::Cursor;
 use crate::grammar_core::suffix::{Suffix, has_arc};
-use roster_model::{ArcKey, Grammar, List, Memory, Rule, Step, Sym, Tree, rule_of};
+use model_rosters::{ArcKey, Grammar, List, Memory, Rule, Step, Sym, Tree, rule_of};
 use std::alloc::Global;
 
 /// Returns the steps of a tree in preorder from its arcs, as `tree_to_items` gives them.

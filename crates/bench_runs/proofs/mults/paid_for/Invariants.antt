@@ -1,5 +1,5 @@
 use Rattle.std.proofs.Common.{◌≡◌, ◌^◌, All, length}
-use Rattle.roster_model.specs.Sums.{Within}
+use Rattle.model_rosters.specs.Sums.{Within}
 use Rattle.bench_runs.proofs.mults.paid_for.Given as goal
 
 abbrev pub invariant-loop-number : goal.invariant-loop-number

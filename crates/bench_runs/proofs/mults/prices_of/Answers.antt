@@ -1,5 +1,5 @@
 use Rattle.std.proofs.Common.{arith, ◌^◌, All, length, ap, sym, subst}
-use Rattle.roster_model.specs.Sums.{Within}
+use Rattle.model_rosters.specs.Sums.{Within}
 use Rattle.std.proofs.lemmas.List.Elements.{All-nil}
 use Rattle.bench_runs.proofs.mults.prices_of.Goals as goal
 

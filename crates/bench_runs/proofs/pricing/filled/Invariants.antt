@@ -1,4 +1,4 @@
-use Rattle.span_table.specs.Tables.{IsMadeFor}
+use Rattle.tree_span_table.specs.Tables.{IsMadeFor}
 use Rattle.bench_runs.proofs.pricing.filled.Given as goal
 
 abbrev pub invariant-loop-fill : goal.invariant-loop-fill

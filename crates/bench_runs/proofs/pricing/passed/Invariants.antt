@@ -1,4 +1,4 @@
-use Rattle.cheapest_tree.specs.Pricers.{IsMadeFor}
+use Rattle.tree_cheapest.specs.Pricers.{IsMadeFor}
 use Rattle.bench_runs.proofs.pricing.passed.Given as goal
 
 abbrev pub invariant-loop-fill : goal.invariant-loop-fill

@@ -1,4 +1,4 @@
-use Rattle.cheapest_tree.specs.Pricers.{IsMadeFor}
+use Rattle.tree_cheapest.specs.Pricers.{IsMadeFor}
 use Rattle.bench_runs.proofs.root.solve_again.Given as goal
 
 -- the pricer is still one made for the graph

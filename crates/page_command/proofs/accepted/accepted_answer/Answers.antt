@@ -1,7 +1,7 @@
 use Rattle.std.proofs.Common.{◌≡◌, subst}
 use Rattle.std.specs.Option.{option_copied}
-use Rattle.certificates.specs.certificate_laws.Accepted.{Accepts}
-use Rattle.certificates.specs.declared.cert.Cert.{Cert}
+use Rattle.check_certificates.specs.certificate_laws.Accepted.{Accepts}
+use Rattle.check_certificates.specs.declared.cert.Cert.{Cert}
 use Rattle.page_command.proofs.ShownRosters.{accepted-shown, sound-certified}
 use Rattle.page_command.proofs.accepted.accepted_answer.Goals as goal
 

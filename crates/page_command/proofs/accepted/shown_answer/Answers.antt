@@ -1,6 +1,6 @@
 use Rattle.std.proofs.Common.{sym}
 use Rattle.std.specs.Option.{option_copied}
-use Rattle.roster_views.specs.Shown as showing
+use Rattle.page_views.specs.Shown as showing
 use Rattle.page_command.proofs.ShownRosters.{roster-shown}
 use Rattle.page_command.proofs.accepted.shown_answer.Goals as goal
 

@@ -1,4 +1,4 @@
-use Rattle.answers.proofs.AskedLemmas.{demand-accepted, demand-refused}
+use Rattle.command_answers.proofs.AskedLemmas.{demand-accepted, demand-refused}
 use Rattle.page_command.proofs.asking.ask_demand_text.Goals as goal
 
 pub returns-in-Ok : goal.returns-in-Ok

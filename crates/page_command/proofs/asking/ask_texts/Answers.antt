@@ -1,4 +1,4 @@
-use Rattle.answers.proofs.AskedLemmas.{texts-accepted, texts-refused}
+use Rattle.command_answers.proofs.AskedLemmas.{texts-accepted, texts-refused}
 use Rattle.page_command.proofs.asking.ask_texts.Goals as goal
 
 pub returns-in-Ok : goal.returns-in-Ok

@@ -1,8 +1,8 @@
 use Rattle.std.proofs.Common.{[]}
-use Rattle.shelf.specs.Shelf.{Told}
-use Rattle.answers.specs.Asked.{AnswersThird}
-use Rattle.answers.proofs.AskedLemmas.{third-read, unread}
-use Rattle.answers.proofs.Readers.{IfOk-map}
+use Rattle.command_shelf.specs.Shelf.{Told}
+use Rattle.command_answers.specs.Asked.{AnswersThird}
+use Rattle.command_answers.proofs.AskedLemmas.{third-read, unread}
+use Rattle.command_answers.proofs.Readers.{IfOk-map}
 use Rattle.page_command.proofs.asking.ask_third.Goals as goal
 
 pub returns-in-Ok : goal.returns-in-Ok

@@ -1,6 +1,6 @@
 use Rattle.std.proofs.Common.{[], ◌∷◌}
-use Rattle.shelf.specs.Shelf.{Told}
-use Rattle.answers.proofs.AskedLemmas.{unread}
+use Rattle.command_shelf.specs.Shelf.{Told}
+use Rattle.command_answers.proofs.AskedLemmas.{unread}
 use Rattle.page_command.specs.Check.{AnswersBeside}
 use Rattle.page_command.proofs.LabelledReaders.{rules-beside}
 use Rattle.page_command.proofs.beside.draw_beside.Goals as goal

@@ -1,6 +1,6 @@
 use Rattle.std.proofs.Common.{[], ◌∷◌}
-use Rattle.shelf.specs.Shelf.{Told}
-use Rattle.answers.proofs.AskedLemmas.{unread}
+use Rattle.command_shelf.specs.Shelf.{Told}
+use Rattle.command_answers.proofs.AskedLemmas.{unread}
 use Rattle.page_command.specs.Check.{AnswersBesideRules}
 use Rattle.page_command.proofs.LabelledReaders.{labels-beside}
 use Rattle.page_command.proofs.beside.draw_by_rules.Goals as goal

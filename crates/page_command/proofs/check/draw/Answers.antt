@@ -1,6 +1,6 @@
 use Rattle.std.proofs.Common.{[], ◌∷◌}
-use Rattle.shelf.specs.Shelf.{Told}
-use Rattle.answers.proofs.AskedLemmas.{unread}
+use Rattle.command_shelf.specs.Shelf.{Told}
+use Rattle.command_answers.proofs.AskedLemmas.{unread}
 use Rattle.page_command.specs.Check.{AnswersShown}
 use Rattle.page_command.proofs.LabelledReaders.{rules-fetched}
 use Rattle.page_command.proofs.check.draw.Goals as goal

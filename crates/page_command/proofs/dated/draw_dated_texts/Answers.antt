@@ -1,6 +1,6 @@
 use Rattle.std.proofs.Common.{[], ◌∷◌}
-use Rattle.shelf.specs.Shelf.{Told}
-use Rattle.answers.proofs.AskedLemmas.{unread}
+use Rattle.command_shelf.specs.Shelf.{Told}
+use Rattle.command_answers.proofs.AskedLemmas.{unread}
 use Rattle.page_command.specs.Dated.{AnswersDatedTexts}
 use Rattle.page_command.proofs.DatedReaders.{demand-dated}
 use Rattle.page_command.proofs.dated.draw_dated_texts.Goals as goal

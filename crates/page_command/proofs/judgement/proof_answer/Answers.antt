@@ -1,7 +1,7 @@
 use Rattle.std.specs.Option.{option_copied}
 use Rattle.page_command.specs.Judgement.{Judgement}
 use Rattle.page_command.proofs.Checks.{proof-drawn, proof-refused-why, yes-accepted}
-use Rattle.text_commands.proofs.Checks.{proof-refused}
+use Rattle.command_texts.proofs.Checks.{proof-refused}
 use Rattle.page_command.proofs.judgement.proof_answer.Goals as goal
 
 pub accepted_answer-requires-clause-accepted : goal.accepted_answer-requires-clause-accepted

@@ -1,5 +1,5 @@
 use Rattle.std.proofs.Common.{◌≡◌, ◌++◌, map, take}
-use Rattle.roster_model.specs.Duties.{duty}
+use Rattle.model_rosters.specs.Duties.{duty}
 use Rattle.page_text.specs.Columns.{column_of}
 use Rattle.page_text.proofs.column.add_columns.Given as goal
 

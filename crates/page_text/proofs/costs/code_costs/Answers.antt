@@ -1,7 +1,7 @@
 use Rattle.std.proofs.Common.{◌+◌, ap}
 use Rattle.std.specs.Prelude.{false}
 use Rattle.page_text.specs.Costs.{code_cost}
-use Rattle.roster_model.specs.declared.grammar.CodeDef.{CodeDef}
+use Rattle.model_rosters.specs.declared.grammar.CodeDef.{CodeDef}
 use Rattle.page_parts.proofs.ElementsLemmas.{more_from}
 use Rattle.page_text.proofs.costs.code_costs.Goals as goal
 

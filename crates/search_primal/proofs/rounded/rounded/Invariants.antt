@@ -1,5 +1,5 @@
 use Rattle.std.proofs.Common.{ℕ, ◌<◌, All}
-use Rattle.node_columns.specs.declared.weights.Weight.{Weight}
+use Rattle.search_node_columns.specs.declared.weights.Weight.{Weight}
 use Rattle.search_primal.specs.Rounded.{AreFewer}
 use Rattle.search_primal.proofs.rounded.rounded.Given as goal
 

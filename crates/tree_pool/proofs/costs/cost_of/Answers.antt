@@ -1,5 +1,5 @@
 use Rattle.std.proofs.Common.{arith}
-use Rattle.roster_model.specs.declared.grammar.Step.{Step}
+use Rattle.model_rosters.specs.declared.grammar.Step.{Step}
 use Rattle.tree_pool.specs.Costs.{step_cost}
 use Rattle.tree_pool.proofs.CostsLemmas.{cost_more}
 use Rattle.tree_pool.proofs.costs.cost_of.Goals as goal

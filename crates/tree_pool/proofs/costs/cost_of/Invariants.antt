@@ -1,5 +1,5 @@
 use Rattle.std.proofs.Common.{◌≡◌, ◌≤◌, ◌*◌, take}
-use Rattle.roster_model.specs.Folds.{sum_n}
+use Rattle.model_rosters.specs.Folds.{sum_n}
 use Rattle.tree_pool.specs.Costs.{step_cost}
 use Rattle.tree_pool.proofs.costs.cost_of.Given as goal
 

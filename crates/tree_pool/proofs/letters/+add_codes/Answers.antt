@@ -1,11 +1,11 @@
 use Rattle.std.proofs.Common.{arith, ◌≡◌, ◌∷◌, ◌++◌, ◌∙◌, ℕ, ◌+◌, ◌*◌, ◌<◌, ◌≤◌, length, List, ap, subst}
-use Rattle.roster_model.specs.declared.grammar.Step.{Step}
-use Rattle.roster_model.specs.declared.grammar.Sym.{Sym}
-use Rattle.roster_model.specs.declared.grammar.Sym.TheVariants.{Name}
-use Rattle.roster_model.specs.Trees.{Parts, Derive, steps}
-use Rattle.roster_model.proofs.tree_laws.Rules.{sound-rule}
-use Rattle.roster_model.specs.tree_laws.DaySteps.{AsksParts}
-use Rattle.roster_model.proofs.tree_laws.DayStepsLemmas.{name-inner, name-others, name-fewer}
+use Rattle.model_rosters.specs.declared.grammar.Step.{Step}
+use Rattle.model_rosters.specs.declared.grammar.Sym.{Sym}
+use Rattle.model_rosters.specs.declared.grammar.Sym.TheVariants.{Name}
+use Rattle.model_rosters.specs.Trees.{Parts, Derive, steps}
+use Rattle.model_rosters.proofs.tree_laws.Rules.{sound-rule}
+use Rattle.model_rosters.specs.tree_laws.DaySteps.{AsksParts}
+use Rattle.model_rosters.proofs.tree_laws.DayStepsLemmas.{name-inner, name-others, name-fewer}
 use Rattle.tree_pool.specs.Letters.{GivesCodes}
 use Rattle.tree_pool.proofs.letters.+add_codes.Goals as goal
 

@@ -1,7 +1,7 @@
 use Rattle.std.proofs.Common.{[], ◌++◌, ◌∙◌, sym, ap}
 use Rattle.std.proofs.lemmas.List.{append-nil}
-use Rattle.roster_model.specs.Trees.{steps}
-use Rattle.roster_model.specs.tree_laws.Letters.{codes_of as codes_in}
+use Rattle.model_rosters.specs.Trees.{steps}
+use Rattle.model_rosters.specs.tree_laws.Letters.{codes_of as codes_in}
 use Rattle.tree_pool.proofs.letters.codes_of.Goals as goal
 
 pub returns : goal.returns

@@ -1,5 +1,5 @@
 use Rattle.std.proofs.Common.{◌≡◌, ◌≤◌, drop, min}
-use Rattle.roster_model.specs.Cuts.{hi}
+use Rattle.model_rosters.specs.Cuts.{hi}
 use Rattle.check_parts.proofs.pinned_part.bounds.high.Given as goal
 
 abbrev pub invariant-loop-cut : goal.invariant-loop-cut

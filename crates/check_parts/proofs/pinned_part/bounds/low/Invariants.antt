@@ -1,5 +1,5 @@
 use Rattle.std.proofs.Common.{◌≡◌, ◌≤◌, drop, max}
-use Rattle.roster_model.specs.Cuts.{lo}
+use Rattle.model_rosters.specs.Cuts.{lo}
 use Rattle.check_parts.proofs.pinned_part.bounds.low.Given as goal
 
 abbrev pub invariant-loop-cut : goal.invariant-loop-cut

@@ -1,6 +1,6 @@
 use Rattle.std.proofs.Common.{arith, ℕ, ◌≡◌, ◌<◌, Option, subst}
 use Rattle.std.specs.Prelude.{IfSome, map}
-use Rattle.roster_model.specs.arc_laws.OrNodes.{used}
+use Rattle.model_rosters.specs.arc_laws.OrNodes.{used}
 use Rattle.check_parts.specs.pinned_part.Places.{node_place, place_count}
 use Rattle.check_parts.specs.pinned_part.Net.{one_or_two}
 use Rattle.check_parts.proofs.pinned_part.RowChanges.{counted-one, counted-two}

@@ -1,10 +1,10 @@
 use Rattle.std.proofs.Common.{arith, ◌≡◌, ◌≢◌, ◌<◌, ◌+◌, length, refl, ap, sym, ◌∙◌, subst}
 use Rattle.std.specs.Prelude.{drop}
 use Rattle.std.proofs.lemmas.Option.{same_Some}
-use Rattle.roster_model.specs.declared.grammar.Rule.{Rule}
-use Rattle.roster_model.specs.declared.grammar.Sym.TheVariants.{Code}
-use Rattle.roster_model.specs.arc_laws.OrNodes.{right_of, used_by}
-use Rattle.roster_model.proofs.arc_laws.BalanceLemmas.{right_of-is}
+use Rattle.model_rosters.specs.declared.grammar.Rule.{Rule}
+use Rattle.model_rosters.specs.declared.grammar.Sym.TheVariants.{Code}
+use Rattle.model_rosters.specs.arc_laws.OrNodes.{right_of, used_by}
+use Rattle.model_rosters.proofs.arc_laws.BalanceLemmas.{right_of-is}
 use Rattle.check_parts.proofs.pinned_part.PlacesLemmas.{used-more}
 use Rattle.check_parts.proofs.pinned_part.counting.used_places.Goals as goal
 

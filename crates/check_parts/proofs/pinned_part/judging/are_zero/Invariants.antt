@@ -1,5 +1,5 @@
 use Rattle.std.proofs.Common.{◌≡◌, ◌≢◌, ℕ, ◌<◌, pos, get_or}
-use Rattle.roster_model.specs.arc_laws.OrNodes.{root_of}
+use Rattle.model_rosters.specs.arc_laws.OrNodes.{root_of}
 use Rattle.check_parts.specs.pinned_part.Places.{node_place}
 use Rattle.check_parts.proofs.pinned_part.judging.are_zero.Given as goal
 

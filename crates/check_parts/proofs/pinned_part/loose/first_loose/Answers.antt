@@ -1,9 +1,9 @@
 use Rattle.std.proofs.Common.{Option, None, Some, subst, ◌⊎◌, inr}
-use Rattle.roster_model.specs.declared.grammar.ArcKey.{ArcKey}
-use Rattle.roster_model.specs.Arcs.{IsArc}
-use Rattle.span_arcs.specs.Ahead.{IsAhead}
-use Rattle.roster_model.specs.arc_laws.Loose.{IsLoose}
-use Rattle.span_arcs.proofs.AheadLemmas.{first-ahead, next-some, try-next}
+use Rattle.model_rosters.specs.declared.grammar.ArcKey.{ArcKey}
+use Rattle.model_rosters.specs.Arcs.{IsArc}
+use Rattle.tree_span_arcs.specs.Ahead.{IsAhead}
+use Rattle.model_rosters.specs.arc_laws.Loose.{IsLoose}
+use Rattle.tree_span_arcs.proofs.AheadLemmas.{first-ahead, next-some, try-next}
 use Rattle.check_parts.proofs.pinned_part.loose.first_loose.Goals as goal
 
 pub loop-next-init : goal.loop-next-init

@@ -1,10 +1,10 @@
 use Rattle.std.proofs.Common.{◌⊎◌}
 use Rattle.std.specs.Prelude.{IfSome}
-use Rattle.roster_model.specs.declared.grammar.ArcKey.{ArcKey}
-use Rattle.roster_model.specs.Arcs.{IsArc}
-use Rattle.span_arcs.proofs.OrderLemmas.{keys_left}
-use Rattle.span_arcs.specs.Ahead.{IsAhead}
-use Rattle.roster_model.specs.arc_laws.Loose.{IsLoose}
+use Rattle.model_rosters.specs.declared.grammar.ArcKey.{ArcKey}
+use Rattle.model_rosters.specs.Arcs.{IsArc}
+use Rattle.tree_span_arcs.proofs.OrderLemmas.{keys_left}
+use Rattle.tree_span_arcs.specs.Ahead.{IsAhead}
+use Rattle.model_rosters.specs.arc_laws.Loose.{IsLoose}
 use Rattle.check_parts.proofs.pinned_part.loose.first_loose.Given as goal
 
 abbrev pub invariant-loop-next : goal.invariant-loop-next

@@ -1,8 +1,8 @@
 use Rattle.std.proofs.Common.{◌≡◌, ◌+◌, ◌*◌, ◌≤◌, drop}
 use Rattle.std.specs.Prelude.{◌↔◌}
-use Rattle.roster_model.specs.declared.instance.Cell.{Cell}
-use Rattle.roster_model.specs.Coverage.{penalty, IsWithinCell}
-use Rattle.roster_model.specs.Folds.{sum_n, Each}
+use Rattle.model_rosters.specs.declared.instance.Cell.{Cell}
+use Rattle.model_rosters.specs.Coverage.{penalty, IsWithinCell}
+use Rattle.model_rosters.specs.Folds.{sum_n, Each}
 use Rattle.check_parts.specs.pinned_part.Net.{cell_size}
 use Rattle.check_parts.proofs.pinned_part.penalties.penalties.Given as goal
 

@@ -1,10 +1,10 @@
 use Rattle.std.proofs.Common.{rules, ◌≡◌, ◌≤◌, ◌*◌, subst, List, length}
 use Rattle.std.specs.Prelude.{IsTrue, MatchOption}
-use Rattle.roster_model.specs.declared.instance.Cell.{Cell}
-use Rattle.roster_model.specs.Coverage.{penalty, IsWithinCell}
-use Rattle.roster_model.specs.Folds.{sum_n, Each}
-use Rattle.roster_model.proofs.CostBounds.{cells-le}
-use Rattle.roster_model.proofs.SoundCells.{cells_of_day}
+use Rattle.model_rosters.specs.declared.instance.Cell.{Cell}
+use Rattle.model_rosters.specs.Coverage.{penalty, IsWithinCell}
+use Rattle.model_rosters.specs.Folds.{sum_n, Each}
+use Rattle.model_rosters.proofs.CostBounds.{cells-le}
+use Rattle.model_rosters.proofs.SoundCells.{cells_of_day}
 use Rattle.check_parts.specs.pinned_part.Net.{cell_size}
 use Rattle.check_parts.proofs.pinned_part.PinnedValues.{allowed-told}
 use Rattle.check_parts.proofs.pinned_part.value.allowed_penalties.Goals as goal

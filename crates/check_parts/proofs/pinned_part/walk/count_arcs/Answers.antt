@@ -1,14 +1,14 @@
 use Rattle.std.proofs.Common.{arith, ℕ, refl, ◌≡◌, ◌≤◌, ◌*◌, ◌++◌, [], ◌∷◌, length, ◌∙◌, subst, Option}
 use Rattle.std.proofs.lemmas.Nat.{mul-le}
-use Rattle.roster_model.specs.declared.grammar.ArcKey.{ArcKey}
-use Rattle.roster_model.specs.Cuts.{lo}
-use Rattle.roster_model.specs.arc_laws.Counts.{top_cost}
-use Rattle.roster_model.proofs.arc_laws.FoldsLemmas.{sum_n-append}
-use Rattle.span_arcs.specs.Ahead.{IsPassed}
+use Rattle.model_rosters.specs.declared.grammar.ArcKey.{ArcKey}
+use Rattle.model_rosters.specs.Cuts.{lo}
+use Rattle.model_rosters.specs.arc_laws.Counts.{top_cost}
+use Rattle.model_rosters.proofs.arc_laws.FoldsLemmas.{sum_n-append}
+use Rattle.tree_span_arcs.specs.Ahead.{IsPassed}
 use Rattle.check_parts.specs.pinned_part.Net.{IsCounted}
 use Rattle.check_parts.proofs.pinned_part.NetLemmas.{net-none, net-step, net-small}
-use Rattle.span_arcs.proofs.ShapesLemmas.{arc-split, arc-small}
-use Rattle.span_arcs.proofs.AheadLemmas.{passed-first, passed-step, passed-end, passed-few}
+use Rattle.tree_span_arcs.proofs.ShapesLemmas.{arc-split, arc-small}
+use Rattle.tree_span_arcs.proofs.AheadLemmas.{passed-first, passed-step, passed-end, passed-few}
 use Rattle.check_parts.proofs.pinned_part.Paths.{lo_small, paid-small}
 use Rattle.check_parts.proofs.pinned_part.walk.count_arcs.Goals as goal
 

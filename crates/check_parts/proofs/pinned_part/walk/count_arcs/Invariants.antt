@@ -1,10 +1,10 @@
 use Rattle.std.proofs.Common.{◌≡◌, ◌*◌, List}
-use Rattle.roster_model.specs.declared.grammar.ArcKey.{ArcKey}
-use Rattle.roster_model.specs.Cuts.{lo}
-use Rattle.roster_model.specs.Folds.{sum_n}
-use Rattle.roster_model.specs.arc_laws.Counts.{top_cost}
-use Rattle.span_arcs.proofs.OrderLemmas.{keys_left}
-use Rattle.span_arcs.specs.Ahead.{IsPassed}
+use Rattle.model_rosters.specs.declared.grammar.ArcKey.{ArcKey}
+use Rattle.model_rosters.specs.Cuts.{lo}
+use Rattle.model_rosters.specs.Folds.{sum_n}
+use Rattle.model_rosters.specs.arc_laws.Counts.{top_cost}
+use Rattle.tree_span_arcs.proofs.OrderLemmas.{keys_left}
+use Rattle.tree_span_arcs.specs.Ahead.{IsPassed}
 use Rattle.check_parts.specs.pinned_part.Net.{IsNet}
 use Rattle.check_parts.proofs.pinned_part.walk.count_arcs.Given as goal
 

@@ -1,6 +1,6 @@
 use Rattle.std.proofs.Common.{arith, not}
 use Rattle.std.proofs.lemmas.List.{length-set}
-use Rattle.roster_model.specs.Trees.{Parts, IsTreeOf}
+use Rattle.model_rosters.specs.Trees.{Parts, IsTreeOf}
 use Rattle.check_parts.proofs.priced_part.DerivedNames.{told-next}
 use Rattle.check_parts.proofs.priced_part.derived.derived_names.Goals as goal
 

@@ -1,6 +1,6 @@
 use Rattle.std.proofs.Common.{◌≡◌, ℕ, ◌<◌, ◌↔◌, false, length}
 use Rattle.std.specs.Prelude.{slice_index_or, true}
-use Rattle.roster_model.specs.Trees.{Parts, IsTreeOf}
+use Rattle.model_rosters.specs.Trees.{Parts, IsTreeOf}
 use Rattle.check_parts.proofs.priced_part.derived.derived_names.Given as goal
 
 abbrev pub invariant-loop-name : goal.invariant-loop-name

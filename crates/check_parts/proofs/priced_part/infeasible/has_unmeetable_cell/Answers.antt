@@ -1,5 +1,5 @@
 use Rattle.std.proofs.Common.{◌<◌, get_or, length, refl, arith, ap}
-use Rattle.roster_model.specs.declared.instance.Cell.{Cell}
+use Rattle.model_rosters.specs.declared.instance.Cell.{Cell}
 use Rattle.check_parts.proofs.priced_part.ListSearch.{In-get_or}
 use Rattle.check_parts.proofs.priced_part.infeasible.has_unmeetable_cell.Goals as goal
 

@@ -1,5 +1,5 @@
 use Rattle.std.proofs.Common.{◌<◌, min}
-use Rattle.roster_model.specs.declared.instance.Cell.{Cell}
+use Rattle.model_rosters.specs.declared.instance.Cell.{Cell}
 use Rattle.check_parts.proofs.priced_part.ListSearch.{StandsFrom}
 use Rattle.check_parts.proofs.priced_part.infeasible.has_unmeetable_cell.Given as goal
 

@@ -1,6 +1,6 @@
 use Rattle.std.proofs.Common.{◌<◌, get_or, length, refl, sym, arith, ap, ◌∙◌}
 use Rattle.std.proofs.lemmas.Bool.{false≢true}
-use Rattle.roster_model.specs.declared.instance.Group.{Group}
+use Rattle.model_rosters.specs.declared.instance.Group.{Group}
 use Rattle.check_parts.specs.priced_part.Filled.{NeedsInVain}
 use Rattle.check_parts.proofs.priced_part.DerivedNames.{in-vain}
 use Rattle.check_parts.proofs.priced_part.ListSearch.{In-get_or, stands-next}

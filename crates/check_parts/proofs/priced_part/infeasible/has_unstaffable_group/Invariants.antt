@@ -1,4 +1,4 @@
-use Rattle.roster_model.specs.declared.instance.Group.{Group}
+use Rattle.model_rosters.specs.declared.instance.Group.{Group}
 use Rattle.check_parts.specs.priced_part.Filled.{NeedsInVain}
 use Rattle.check_parts.proofs.priced_part.ListSearch.{StandsFrom}
 use Rattle.check_parts.proofs.priced_part.infeasible.has_unstaffable_group.Given as goal

@@ -1,6 +1,6 @@
-use Rattle.roster_model.specs.declared.instance.Prices.{Prices}
-use Rattle.roster_model.specs.PriceRooms.{price_view}
-use Rattle.roster_model.proofs.RoomWithin.{room-within}
+use Rattle.model_rosters.specs.declared.instance.Prices.{Prices}
+use Rattle.model_rosters.specs.PriceRooms.{price_view}
+use Rattle.model_rosters.proofs.RoomWithin.{room-within}
 use Rattle.check_parts.proofs.priced_part.LeastReduced.{least-reduced, least-small, filled-for_all}
 use Rattle.check_parts.proofs.priced_part.priced.least_reduced.Goals as goal
 

@@ -4,10 +4,10 @@ use Rattle.std.proofs.lemmas.Bool.{false≢true}
 use Rattle.std.proofs.lemmas.Int.{ints}
 use mir.Val.{to_z, of_z}
 use mir.Syntax.{w128}
-use Rattle.roster_model.specs.declared.instance.Prices.{Prices}
-use Rattle.roster_model.specs.GreatestCost.{greatest_cost}
-use Rattle.bound_laws.specs.Lagrangian.{lagrangian_sum}
-use Rattle.bound_laws.specs.Priced.{rounded_up}
+use Rattle.model_rosters.specs.declared.instance.Prices.{Prices}
+use Rattle.model_rosters.specs.GreatestCost.{greatest_cost}
+use Rattle.law_bounds.specs.Lagrangian.{lagrangian_sum}
+use Rattle.law_bounds.specs.Priced.{rounded_up}
 use Rattle.check_parts.proofs.priced_part.WholeCosts.{whole_up}
 use Rattle.check_parts.proofs.priced_part.priced.value_from_least.Goals as goal
 

@@ -2,7 +2,7 @@ use Rattle.std.proofs.Common.{◌≡◌, ◌∙◌, arith}
 use Rattle.std.proofs.lemmas.Int.{ints, clamps}
 use mir.Val.{to_z, of_z}
 use mir.Syntax.{w128}
-use Rattle.bound_laws.specs.Lagrangian.{cell_at}
+use Rattle.law_bounds.specs.Lagrangian.{cell_at}
 use Rattle.check_parts.proofs.priced_part.LeastCounts.{least-more}
 use Rattle.check_parts.proofs.priced_part.shares.cell_share.Goals as goal
 

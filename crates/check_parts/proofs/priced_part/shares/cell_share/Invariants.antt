@@ -1,6 +1,6 @@
 use Rattle.std.proofs.Common.{◌≡◌, ◌^◌}
-use Rattle.roster_model.specs.Sums.{Within}
-use Rattle.bound_laws.specs.Lagrangian.{cell_at, least_from}
+use Rattle.model_rosters.specs.Sums.{Within}
+use Rattle.law_bounds.specs.Lagrangian.{cell_at, least_from}
 use Rattle.check_parts.proofs.priced_part.shares.cell_share.Given as goal
 
 abbrev pub invariant-loop-further : goal.invariant-loop-further

@@ -2,9 +2,9 @@ use Rattle.std.proofs.Common.{◌≡◌, ◌<◌, ◌^◌, pos, length, get_or, 
 use Rattle.std.proofs.lemmas.Int.{ints}
 use mir.Val.{to_z, of_z}
 use mir.Syntax.{w128}
-use Rattle.roster_model.specs.declared.instance.Cell.{Cell}
-use Rattle.roster_model.specs.Sums.{Within}
-use Rattle.bound_laws.specs.Lagrangian.{cell_share}
+use Rattle.model_rosters.specs.declared.instance.Cell.{Cell}
+use Rattle.model_rosters.specs.Sums.{Within}
+use Rattle.law_bounds.specs.Lagrangian.{cell_share}
 use Rattle.check_parts.proofs.priced_part.CellSums.{cells-next}
 use Rattle.check_parts.proofs.priced_part.shares.cells_share.Goals as goal
 

@@ -1,9 +1,9 @@
 use Rattle.std.proofs.Common.{◌≡◌, ◌^◌, ◌*◌}
 use Rattle.std.specs.Prelude.{◌+ℤ◌}
-use Rattle.roster_model.specs.Folds.{sum_z}
-use Rattle.roster_model.specs.Reduced.{cell_prices}
-use Rattle.roster_model.specs.Sums.{Within}
-use Rattle.bound_laws.specs.Lagrangian.{cell_share}
+use Rattle.model_rosters.specs.Folds.{sum_z}
+use Rattle.model_rosters.specs.Reduced.{cell_prices}
+use Rattle.model_rosters.specs.Sums.{Within}
+use Rattle.law_bounds.specs.Lagrangian.{cell_share}
 use Rattle.check_parts.proofs.priced_part.CellSums.{rest_sum}
 use Rattle.check_parts.proofs.priced_part.shares.cells_share.Given as goal
 

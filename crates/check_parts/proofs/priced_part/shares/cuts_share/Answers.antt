@@ -3,13 +3,13 @@ use Rattle.std.proofs.lemmas.Int.{ints}
 use Rattle.std.proofs.lemmas.Option.{slice_get-get_or}
 use mir.Val.{to_z, of_z}
 use mir.Syntax.{w128}
-use Rattle.roster_model.specs.declared.instance.Cut.{Cut}
-use Rattle.roster_model.specs.declared.instance.Mult.{Mult}
-use Rattle.roster_model.specs.declared.instance.Side.TheVariants.{Low}
-use Rattle.roster_model.specs.PriceLimits.{is_nonzero, nonzero}
-use Rattle.roster_model.specs.Sums.{Within}
-use Rattle.roster_model.proofs.Mults.{nonzero-take, nonzero-more}
-use Rattle.bound_laws.specs.Lagrangian.{share_of}
+use Rattle.model_rosters.specs.declared.instance.Cut.{Cut}
+use Rattle.model_rosters.specs.declared.instance.Mult.{Mult}
+use Rattle.model_rosters.specs.declared.instance.Side.TheVariants.{Low}
+use Rattle.model_rosters.specs.PriceLimits.{is_nonzero, nonzero}
+use Rattle.model_rosters.specs.Sums.{Within}
+use Rattle.model_rosters.proofs.Mults.{nonzero-take, nonzero-more}
+use Rattle.law_bounds.specs.Lagrangian.{share_of}
 use Rattle.check_parts.proofs.priced_part.CutSums.{mults-next, mults-end, mults-rising, share-within}
 use Rattle.check_parts.proofs.priced_part.shares.cuts_share.Goals as goal
 

@@ -1,10 +1,10 @@
 use Rattle.std.proofs.Common.{◌≡◌, ◌^◌, ◌*◌, ◌≤◌, drop, take}
 use Rattle.std.specs.Prelude.{◌+ℤ◌}
-use Rattle.roster_model.specs.Folds.{sum_z}
-use Rattle.roster_model.specs.PriceLimits.{AreRising, nonzero}
-use Rattle.roster_model.specs.Reduced.{cut_prices}
-use Rattle.roster_model.specs.Sums.{Within}
-use Rattle.bound_laws.specs.Lagrangian.{cut_share}
+use Rattle.model_rosters.specs.Folds.{sum_z}
+use Rattle.model_rosters.specs.PriceLimits.{AreRising, nonzero}
+use Rattle.model_rosters.specs.Reduced.{cut_prices}
+use Rattle.model_rosters.specs.Sums.{Within}
+use Rattle.law_bounds.specs.Lagrangian.{cut_share}
 use Rattle.check_parts.proofs.priced_part.CutSums.{mults_sum}
 use Rattle.check_parts.proofs.priced_part.shares.cuts_share.Given as goal
 

@@ -1,10 +1,10 @@
 use Rattle.std.proofs.Common.{◌≡◌, ◌≤◌, length, arith}
 use Rattle.std.proofs.lemmas.Int.{ints}
-use Rattle.roster_model.specs.Folds.{sum_z}
-use Rattle.roster_model.specs.Reduced.{cell_prices, cut_prices}
-use Rattle.bound_laws.specs.Lagrangian.{trees_share, cell_share, cut_share}
-use Rattle.roster_model.proofs.CostBounds.{cells-le}
-use Rattle.roster_model.proofs.SoundCells.{cells_limited}
+use Rattle.model_rosters.specs.Folds.{sum_z}
+use Rattle.model_rosters.specs.Reduced.{cell_prices, cut_prices}
+use Rattle.law_bounds.specs.Lagrangian.{trees_share, cell_share, cut_share}
+use Rattle.model_rosters.proofs.CostBounds.{cells-le}
+use Rattle.model_rosters.proofs.SoundCells.{cells_limited}
 use Rattle.check_parts.proofs.priced_part.shares.lagrangian_sum.Goals as goal
 
 pub cells_share-cells-requires-clause-few : goal.cells_share-cells-requires-clause-few

@@ -1,10 +1,10 @@
 use Rattle.std.proofs.Common.{◌≡◌, ◌+◌, ◌<◌, Some, get_or, length, ap, refl, sym, inl, inr, arith}
 use Rattle.std.specs.Prelude.{slice_get}
 use Rattle.std.proofs.lemmas.Option.{slice_get-get_or}
-use Rattle.roster_model.specs.declared.instance.Cell.{Cell}
-use Rattle.roster_model.specs.Coverage.{covered, IsWithinCell}
-use Rattle.roster_model.proofs.SoundCells.{cells_of_day}
-use Rattle.certificates.specs.RosterCauses.{duties, IsOutside}
+use Rattle.model_rosters.specs.declared.instance.Cell.{Cell}
+use Rattle.model_rosters.specs.Coverage.{covered, IsWithinCell}
+use Rattle.model_rosters.proofs.SoundCells.{cells_of_day}
+use Rattle.check_certificates.specs.RosterCauses.{duties, IsOutside}
 use Rattle.check_parts.proofs.roster_part.FaultsLemmas.{never_outside}
 use Rattle.check_parts.proofs.roster_part.Items.{before-all, before-next, first-here}
 use Rattle.check_parts.proofs.roster_part.coverage.coverage_fault.Goals as goal

@@ -1,6 +1,6 @@
-use Rattle.roster_model.specs.declared.instance.Cell.{Cell}
-use Rattle.roster_model.specs.Coverage.{covered, IsWithinCell}
-use Rattle.certificates.specs.RosterCauses.{duties}
+use Rattle.model_rosters.specs.declared.instance.Cell.{Cell}
+use Rattle.model_rosters.specs.Coverage.{covered, IsWithinCell}
+use Rattle.check_certificates.specs.RosterCauses.{duties}
 use Rattle.check_parts.specs.roster_part.Counters.{IsCounterFor}
 use Rattle.check_parts.proofs.roster_part.Items.{Before}
 use Rattle.check_parts.proofs.roster_part.coverage.coverage_fault.Given as goal

@@ -1,9 +1,9 @@
 use Rattle.std.proofs.Common.{◌∙◌, ap, sym, subst, List, ℕ, length}
-use Rattle.roster_model.specs.declared.grammar.Grammar.{Grammar}
-use Rattle.roster_model.specs.Sums.{IsLeast, tree_sum}
-use Rattle.roster_model.specs.Trees.{IsTreeOf}
-use Rattle.roster_model.proofs.word_prices.Costs.{shift-length}
-use Rattle.roster_model.specs.word_prices.Prices.{word_view}
+use Rattle.model_rosters.specs.declared.grammar.Grammar.{Grammar}
+use Rattle.model_rosters.specs.Sums.{IsLeast, tree_sum}
+use Rattle.model_rosters.specs.Trees.{IsTreeOf}
+use Rattle.model_rosters.proofs.word_prices.Costs.{shift-length}
+use Rattle.model_rosters.specs.word_prices.Prices.{word_view}
 use Rattle.check_parts.proofs.roster_part.WordPrices.{told}
 use Rattle.check_parts.proofs.roster_part.prices.least_price.Goals as goal
 

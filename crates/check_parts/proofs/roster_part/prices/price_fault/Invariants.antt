@@ -1,5 +1,5 @@
-use Rattle.roster_model.specs.declared.grammar.Grammar.{Grammar}
-use Rattle.span_table.specs.Tables.{IsMadeFor}
+use Rattle.model_rosters.specs.declared.grammar.Grammar.{Grammar}
+use Rattle.tree_span_table.specs.Tables.{IsMadeFor}
 use Rattle.check_parts.specs.roster_part.Faults.{IsPriceBefore}
 use Rattle.check_parts.proofs.roster_part.Items.{Before}
 use Rattle.check_parts.proofs.roster_part.WordPrices.{HasPrice, IsFirstSoFar}

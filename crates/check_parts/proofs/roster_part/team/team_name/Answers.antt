@@ -1,6 +1,6 @@
 use Rattle.std.proofs.Common.{◌≡◌, ◌<◌, get_or, length, arith}
 use Rattle.std.proofs.lemmas.Option.{slice_get-get_or}
-use Rattle.roster_model.specs.declared.instance.Group.{Group}
+use Rattle.model_rosters.specs.declared.instance.Group.{Group}
 use Rattle.check_parts.proofs.roster_part.TeamNumbers.{group_named, group_within, lone_named}
 use Rattle.check_parts.proofs.roster_part.team.team_name.Goals as goal
 

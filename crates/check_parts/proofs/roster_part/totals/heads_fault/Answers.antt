@@ -1,8 +1,8 @@
 use Rattle.std.proofs.Common.{◌≡◌, ◌+◌, refl, sym, ◌∙◌, inl, inr, arith}
-use Rattle.roster_model.specs.Folds.{count}
-use Rattle.roster_model.specs.Rosters.{HasHeads, is_in_team}
-use Rattle.roster_model.specs.Teams.{Team, teams}
-use Rattle.certificates.specs.RosterCauses.{duties, IsOutOfRange}
+use Rattle.model_rosters.specs.Folds.{count}
+use Rattle.model_rosters.specs.Rosters.{HasHeads, is_in_team}
+use Rattle.model_rosters.specs.Teams.{Team, teams}
+use Rattle.check_certificates.specs.RosterCauses.{duties, IsOutOfRange}
 use Rattle.check_parts.specs.roster_part.TeamViews.{team_view}
 use Rattle.check_parts.proofs.roster_part.Items.{before-next, first-here}
 use Rattle.check_parts.proofs.roster_part.FaultsLemmas.{never_out}

@@ -1,6 +1,6 @@
-use Rattle.roster_model.specs.Rosters.{HasHeads}
-use Rattle.roster_model.specs.Teams.{teams}
-use Rattle.certificates.specs.RosterCauses.{duties}
+use Rattle.model_rosters.specs.Rosters.{HasHeads}
+use Rattle.model_rosters.specs.Teams.{teams}
+use Rattle.check_certificates.specs.RosterCauses.{duties}
 use Rattle.check_parts.proofs.roster_part.Items.{Before}
 use Rattle.check_parts.proofs.roster_part.totals.heads_fault.Given as goal
 

@@ -1,7 +1,7 @@
 use Rattle.std.proofs.Common.{ℕ, ◌≡◌, ◌≤◌, ◌+◌, ◌*◌, ◌^◌}
-use Rattle.roster_model.specs.Folds.{sum_n}
-use Rattle.certificates.specs.RosterCauses.{stated_prices}
-use Rattle.certificates.proofs.StatedPrices.{rest_paid}
+use Rattle.model_rosters.specs.Folds.{sum_n}
+use Rattle.check_certificates.specs.RosterCauses.{stated_prices}
+use Rattle.check_certificates.proofs.StatedPrices.{rest_paid}
 use Rattle.check_parts.proofs.roster_part.totals.paid.Given as goal
 
 abbrev pub invariant-loop-shift : goal.invariant-loop-shift

@@ -1,9 +1,9 @@
 use Rattle.std.proofs.Common.{get_or, ap, arith}
-use Rattle.roster_model.specs.declared.instance.Cell.{Cell}
-use Rattle.roster_model.specs.Coverage.{covered, penalty}
-use Rattle.roster_model.specs.Limits.{IsDayCell}
-use Rattle.roster_model.proofs.CostBounds.{penalty_le}
-use Rattle.certificates.specs.RosterCauses.{duties}
+use Rattle.model_rosters.specs.declared.instance.Cell.{Cell}
+use Rattle.model_rosters.specs.Coverage.{covered, penalty}
+use Rattle.model_rosters.specs.Limits.{IsDayCell}
+use Rattle.model_rosters.proofs.CostBounds.{penalty_le}
+use Rattle.check_certificates.specs.RosterCauses.{duties}
 use Rattle.check_parts.proofs.roster_part.ShiftCounts.{cells-next}
 use Rattle.check_parts.proofs.roster_part.totals.penalties.Goals as goal
 

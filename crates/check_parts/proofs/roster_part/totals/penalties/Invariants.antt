@@ -1,8 +1,8 @@
 use Rattle.std.proofs.Common.{◌≡◌, ◌≤◌, ◌+◌, ◌*◌}
-use Rattle.roster_model.specs.declared.instance.Cell.{Cell}
-use Rattle.roster_model.specs.Coverage.{covered, penalty}
-use Rattle.roster_model.specs.Folds.{sum_n}
-use Rattle.certificates.specs.RosterCauses.{duties}
+use Rattle.model_rosters.specs.declared.instance.Cell.{Cell}
+use Rattle.model_rosters.specs.Coverage.{covered, penalty}
+use Rattle.model_rosters.specs.Folds.{sum_n}
+use Rattle.check_certificates.specs.RosterCauses.{duties}
 use Rattle.check_parts.specs.roster_part.Counters.{IsCounterFor}
 use Rattle.check_parts.proofs.roster_part.ShiftCounts.{rest_cells}
 use Rattle.check_parts.proofs.roster_part.totals.penalties.Given as goal

@@ -1,5 +1,5 @@
-use Rattle.roster_model.proofs.CostBounds.{cells-le}
-use Rattle.roster_model.proofs.SoundCells.{cells_of_day}
+use Rattle.model_rosters.proofs.CostBounds.{cells-le}
+use Rattle.model_rosters.proofs.SoundCells.{cells_of_day}
 use Rattle.check_parts.proofs.roster_part.totals.stated_cost.Goals as goal
 
 pub penalties-requires-clause-cells : goal.penalties-requires-clause-cells

@@ -1,5 +1,5 @@
 use Rattle.std.proofs.Common.{ℕ, ◌≡◌, ◌+◌, ◌≤◌, ◌<◌, ◌∷◌, length, arith, subst, sym, refl}
-use Rattle.open_nodes.specs.Queues.{SameLeaves}
+use Rattle.search_open_nodes.specs.Queues.{SameLeaves}
 use Rattle.search_tree.specs.Views.{TreeView}
 use Rattle.search_tree.specs.Steps.{IsHalfOf}
 use Rattle.search_tree.specs.Asked.{AsksFailed, IsProcessed}

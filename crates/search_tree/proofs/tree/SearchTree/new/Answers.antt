@@ -1,9 +1,9 @@
 use Rattle.std.proofs.Common.{ℕ, ◌≡◌, None, [], ◌∷◌, ◌++◌, List, subst, sym, ap, refl, arith, ◌∙◌}
-use Rattle.certificates.specs.growing_laws.Grown.{tip, fresh}
-use Rattle.certificates.specs.declared.growing_laws.seat.Seat.{Seat}
-use Rattle.open_nodes.specs.declared.leaf.OpenLeaf.{OpenLeaf}
-use Rattle.open_nodes.specs.Queues.{SameLeaves}
-use Rattle.roster_model.specs.Folds.{count}
+use Rattle.check_certificates.specs.growing_laws.Grown.{tip, fresh}
+use Rattle.check_certificates.specs.declared.growing_laws.seat.Seat.{Seat}
+use Rattle.search_open_nodes.specs.declared.leaf.OpenLeaf.{OpenLeaf}
+use Rattle.search_open_nodes.specs.Queues.{SameLeaves}
+use Rattle.model_rosters.specs.Folds.{count}
 use Rattle.search_tree.specs.Trees.{IsTree}
 use Rattle.search_tree.specs.Steps.{half_seat}
 use Rattle.search_tree.proofs.NextLeaves.{first-tree}

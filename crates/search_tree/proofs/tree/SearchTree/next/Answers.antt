@@ -1,6 +1,6 @@
 use Rattle.std.proofs.Common.{◌≡◌, [], ◌∷◌, subst, sym, ◌∙◌}
 use Rattle.std.proofs.Common.{List as Items}
-use Rattle.open_nodes.specs.declared.leaf.OpenLeaf.{OpenLeaf as Waiting}
+use Rattle.search_open_nodes.specs.declared.leaf.OpenLeaf.{OpenLeaf as Waiting}
 use Rattle.search_tree.specs.Views.{TreeView}
 use Rattle.search_tree.specs.Trees.{IsTree}
 use Rattle.search_tree.specs.contracts.tree.SearchTree.{the_view}

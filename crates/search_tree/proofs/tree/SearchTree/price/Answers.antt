@@ -1,7 +1,7 @@
 use Rattle.std.proofs.Common.{◌+◌, ◌<◌, length, sym, ◌∷◌, subst, refl, OnOk, Result, Ok, Err}
-use Rattle.roster_model.specs.declared.memory.Memory.{Memory}
-use Rattle.open_nodes.specs.declared.leaf.OpenLeaf.{OpenLeaf}
-use Rattle.open_nodes.specs.Queues.{SameLeaves}
+use Rattle.model_rosters.specs.declared.memory.Memory.{Memory}
+use Rattle.search_open_nodes.specs.declared.leaf.OpenLeaf.{OpenLeaf}
+use Rattle.search_open_nodes.specs.Queues.{SameLeaves}
 use Rattle.search_tree.specs.Views.{TreeView}
 use Rattle.search_tree.specs.Asked.{AsksPriced, IsProcessed}
 use Rattle.search_tree.specs.contracts.tree.SearchTree.{the_view}

@@ -1,6 +1,6 @@
 use Rattle.std.proofs.Common.{◌<◌, length, arith, rules}
 use Rattle.std.proofs.lemmas.Option.{slice_get-get_or}
-use Rattle.roster_model.specs.declared.grammar.Sym.TheVariants.{Code}
+use Rattle.model_rosters.specs.declared.grammar.Sym.TheVariants.{Code}
 use Rattle.tree_pool.proofs.grammar_core.items.item.Goals as goal
 
 pub returns : goal.returns

@@ -1,5 +1,5 @@
 use Rattle.std.proofs.Common.{ℕ, ◌≡◌, ◌+◌, ◌≤◌, length, arith, subst}
-use Rattle.roster_model.proofs.tree_laws.Rules.{sound-rule}
+use Rattle.model_rosters.proofs.tree_laws.Rules.{sound-rule}
 use Rattle.tree_pool.specs.grammar_core.Items.{item_count}
 use Rattle.tree_pool.specs.grammar_core.Adding.{AddsItems, ItemsOfFirst}
 use Rattle.tree_pool.proofs.grammar_core.ItemsLemmas.{rules-init, rules-next, all-rules}

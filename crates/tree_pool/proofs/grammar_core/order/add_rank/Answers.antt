@@ -3,7 +3,7 @@ use Rattle.tree_pool.specs.grammar_core.Adding.{AreOrdered}
 use Rattle.tree_pool.proofs.grammar_core.OrderLemmas.{rank-taken, rank-passed}
 use Rattle.tree_pool.proofs.grammar_core.order.add_rank.Goals as goal
 use Rattle.tree_pool.proofs.grammar_core.order.add_rank.Goals.{then-ranks-name+in_ok-push, else-ranks-name}
-use Rattle.roster_model.specs.tree_laws.RankOrder.{IsPlaced}
+use Rattle.model_rosters.specs.tree_laws.RankOrder.{IsPlaced}
 
 pub loop-name-preserved : goal.loop-name-preserved
 loop-name-preserved c =

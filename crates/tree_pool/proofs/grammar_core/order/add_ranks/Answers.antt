@@ -2,7 +2,7 @@ use Rattle.std.proofs.Common.{arith, ◌≡◌, ◌+◌, ◌-◌, ℕ, subst}
 use Rattle.tree_pool.proofs.grammar_core.OrderLemmas.{order-init, turn-begins, turn-ends}
 use Rattle.tree_pool.specs.grammar_core.Adding.{AreOrdered}
 use Rattle.tree_pool.proofs.grammar_core.order.add_ranks.Goals as goal
-use Rattle.roster_model.specs.tree_laws.RankOrder.{IsDone}
+use Rattle.model_rosters.specs.tree_laws.RankOrder.{IsDone}
 
 pub loop-turn-init : goal.loop-turn-init
 loop-turn-init c = rw c.requires.empty (order-init c.args.ranks.now c.args.names (IsDone c.args.ranks.now c.args.names 0) (λ x lt d. omega (arith, c.requires.below x lt, d)))

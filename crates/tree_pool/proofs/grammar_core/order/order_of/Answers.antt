@@ -1,10 +1,10 @@
 use Rattle.std.proofs.Common.{ℕ, length, subst, arith}
 use Rattle.std.specs.Prelude.{slice_index}
-use Rattle.roster_model.proofs.StepRules.{no_cycle}
+use Rattle.model_rosters.proofs.StepRules.{no_cycle}
 use Rattle.tree_pool.specs.grammar_core.Adding.{AreOrdered}
 use Rattle.tree_pool.proofs.grammar_core.OrderLemmas.{all-names}
-use Rattle.roster_model.proofs.tree_laws.Ranks.{rank-below}
-use Rattle.roster_model.specs.tree_laws.RankOrder.{IsDone}
+use Rattle.model_rosters.proofs.tree_laws.Ranks.{rank-below}
+use Rattle.model_rosters.specs.tree_laws.RankOrder.{IsDone}
 use Rattle.tree_pool.proofs.grammar_core.order.order_of.Goals as goal
 
 pub unreachable-requires : goal.unreachable-requires

@@ -1,11 +1,11 @@
 use Rattle.std.proofs.Common.{arith, ◌≡◌, ◌<◌, ◌+◌, length, ap, subst, ℕ, get_or, ◌++◌}
 use Rattle.std.proofs.lemmas.Result.{on_ok_weaker}
-use Rattle.roster_model.specs.declared.grammar.ArcKey.{ArcKey}
-use Rattle.roster_model.specs.declared.grammar.Sym.{Sym}
-use Rattle.roster_model.specs.declared.grammar.Sym.TheVariants.{Code, Name}
-use Rattle.roster_model.specs.Arcs.{arcs, parts_arcs}
-use Rattle.roster_model.specs.Trees.{steps}
-use Rattle.roster_model.specs.tree_laws.Laws.{arc_at}
+use Rattle.model_rosters.specs.declared.grammar.ArcKey.{ArcKey}
+use Rattle.model_rosters.specs.declared.grammar.Sym.{Sym}
+use Rattle.model_rosters.specs.declared.grammar.Sym.TheVariants.{Code, Name}
+use Rattle.model_rosters.specs.Arcs.{arcs, parts_arcs}
+use Rattle.model_rosters.specs.Trees.{steps}
+use Rattle.model_rosters.specs.tree_laws.Laws.{arc_at}
 use Rattle.tree_pool.specs.declared.grammar_core.suffix.Suffix.{Suffix}
 use Rattle.tree_pool.specs.grammar_core.Walks.{AsksTree, TurnsParts, next_len, own_arcs, tree_measure, steps_measure}
 use Rattle.tree_pool.proofs.grammar_core.ToItemsLemmas.{steps-asks_tree, steps-asks_parts, steps-part_within, from_below, steps-fewer, steps-turned, use-asks, after}

@@ -1,9 +1,9 @@
 use Rattle.std.proofs.Common.{◌≡◌, ◌∷◌, [], sym, subst, ◌∙◌, List}
 use Rattle.std.proofs.lemmas.List.{append-nil}
-use Rattle.roster_model.specs.declared.grammar.ArcKey.{ArcKey}
-use Rattle.roster_model.specs.declared.grammar.Sym.TheVariants.{Name}
-use Rattle.roster_model.specs.Arcs.{parts_arcs}
-use Rattle.roster_model.specs.Trees.{steps}
+use Rattle.model_rosters.specs.declared.grammar.ArcKey.{ArcKey}
+use Rattle.model_rosters.specs.declared.grammar.Sym.TheVariants.{Name}
+use Rattle.model_rosters.specs.Arcs.{parts_arcs}
+use Rattle.model_rosters.specs.Trees.{steps}
 use Rattle.tree_pool.specs.grammar_core.Walks.{AsksTree, TurnsParts}
 use Rattle.tree_pool.proofs.grammar_core.ToItemsLemmas.{use-asks, use-turned}
 use Rattle.tree_pool.proofs.grammar_core.to_items.tree_to_items.Goals as goal

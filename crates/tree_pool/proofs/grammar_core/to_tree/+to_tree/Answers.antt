@@ -1,11 +1,11 @@
 use Rattle.std.proofs.Common.{arith, ◌≡◌, ◌<◌, ◌+◌, length, sym, ap, subst, ◌∙◌, ℕ, get_or}
 use Rattle.std.proofs.lemmas.Result.{on_ok_weaker}
-use Rattle.roster_model.specs.declared.grammar.Sym.{Sym}
-use Rattle.roster_model.specs.declared.grammar.Sym.TheVariants.{Code, Name}
-use Rattle.roster_model.specs.declared.grammar.Step.{Step}
-use Rattle.roster_model.specs.Arcs.{arcs, parts_arcs}
-use Rattle.roster_model.specs.Grammar.{rule_at}
-use Rattle.roster_model.specs.Trees.{steps}
+use Rattle.model_rosters.specs.declared.grammar.Sym.{Sym}
+use Rattle.model_rosters.specs.declared.grammar.Sym.TheVariants.{Code, Name}
+use Rattle.model_rosters.specs.declared.grammar.Step.{Step}
+use Rattle.model_rosters.specs.Arcs.{arcs, parts_arcs}
+use Rattle.model_rosters.specs.Grammar.{rule_at}
+use Rattle.model_rosters.specs.Trees.{steps}
 use Rattle.tree_pool.specs.declared.grammar_core.suffix.Suffix.{Suffix}
 use Rattle.tree_pool.specs.grammar_core.Walks.{AsksTree, TurnsParts, tree_measure, arcs_measure}
 use Rattle.tree_pool.proofs.grammar_core.ToItemsLemmas.{from_below, whole}

@@ -1,9 +1,9 @@
 use Rattle.std.proofs.Common.{◌≡◌, ◌∷◌, [], ◌++◌, sym, ap, ◌∙◌}
 use Rattle.std.proofs.lemmas.List.{append-nil}
-use Rattle.roster_model.specs.declared.grammar.Step.{Step}
-use Rattle.roster_model.specs.declared.grammar.Sym.TheVariants.{Name}
-use Rattle.roster_model.specs.Arcs.{arcs}
-use Rattle.roster_model.specs.Grammar.{rule_at}
+use Rattle.model_rosters.specs.declared.grammar.Step.{Step}
+use Rattle.model_rosters.specs.declared.grammar.Sym.TheVariants.{Name}
+use Rattle.model_rosters.specs.Arcs.{arcs}
+use Rattle.model_rosters.specs.Grammar.{rule_at}
 use Rattle.tree_pool.specs.grammar_core.Walks.{AsksTree}
 use Rattle.tree_pool.proofs.grammar_core.ToItemsLemmas.{whole}
 use Rattle.tree_pool.proofs.grammar_core.ToTreeLemmas.{step_of, key-asks, key-turned}

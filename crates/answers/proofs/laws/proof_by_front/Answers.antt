@@ -1,5 +1,0 @@
-use Rattle.answers.specs.ProofFronts.{proof-alike}
-use Rattle.answers.proofs.laws.proof_by_front.Goals as goal
-
-pub returns : goal.returns
-returns c = proof-alike

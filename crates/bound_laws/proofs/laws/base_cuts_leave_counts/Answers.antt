@@ -1,5 +1,0 @@
-use Rattle.bound_laws.proofs.BaseCuts.{base-open}
-use Rattle.bound_laws.proofs.laws.base_cuts_leave_counts.Goals as goal
-
-pub returns : goal.returns
-returns c = λ i a sound. base-open i a sound

@@ -1,5 +1,0 @@
-use Rattle.bound_laws.proofs.Relaxation.{lagrangian_sum-le}
-use Rattle.bound_laws.proofs.laws.lagrangian_bound.Goals as goal
-
-pub returns : goal.returns
-returns c = λ i p cuts z ts least mults roster meets. lagrangian_sum-le i p cuts z ts least roster meets mults

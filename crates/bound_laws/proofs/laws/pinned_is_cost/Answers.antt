@@ -1,5 +1,0 @@
-use Rattle.bound_laws.proofs.Pinned.{pinned-is}
-use Rattle.bound_laws.proofs.laws.pinned_is_cost.Goals as goal
-
-pub returns : goal.returns
-returns c = λ i cuts v ts sound tight h roster meets. pinned-is i sound.grammar ts roster cuts tight meets v h

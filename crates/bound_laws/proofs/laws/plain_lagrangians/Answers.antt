@@ -1,5 +1,0 @@
-use Rattle.bound_laws.proofs.PlainValues.{value-plain, plain-value}
-use Rattle.bound_laws.proofs.laws.plain_lagrangians.Goals as goal
-
-pub returns : goal.returns
-returns c = λ i p cuts v sound day. (λ h. value-plain i p cuts sound day v h, λ h. plain-value i p cuts sound day v h)

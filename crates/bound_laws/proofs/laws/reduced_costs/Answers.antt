@@ -1,5 +1,0 @@
-use Rattle.bound_laws.proofs.ReducedCosts.{reduced-cost}
-use Rattle.bound_laws.proofs.laws.reduced_costs.Goals as goal
-
-pub returns : goal.returns
-returns c = λ i p cuts t day. reduced-cost i p cuts t day

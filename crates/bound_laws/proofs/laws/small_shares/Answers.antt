@@ -1,5 +1,0 @@
-use Rattle.bound_laws.proofs.Shares.{heads-within, cells-within, least-within, cuts-within}
-use Rattle.bound_laws.proofs.laws.small_shares.Goals as goal
-
-pub returns : goal.returns
-returns c = record { heads = heads-within; cells = cells-within; least = least-within; cuts = cuts-within }

@@ -1,6 +1,0 @@
-use Rattle.bound_laws.proofs.RosterTrees.{stand-for}
-use Rattle.bound_laws.proofs.SoundReady.{ready}
-use Rattle.bound_laws.proofs.laws.trees_stand_for_rosters.Goals as goal
-
-pub returns : goal.returns
-returns c = λ i ds ps ts sound r k. stand-for i (ready i sound) ds ps ts r k

@@ -1,5 +1,0 @@
-use Rattle.bound_laws.proofs.least_values.Values.{bounds-rivals}
-use Rattle.bound_laws.proofs.least_values.laws.best_bounds_rivals.Goals as goal
-
-pub returns : goal.returns
-returns c = λ i p cuts t sound best tree rival competes. bounds-rivals i p cuts t sound best tree rival competes

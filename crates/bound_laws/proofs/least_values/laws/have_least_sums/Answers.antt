@@ -1,6 +1,0 @@
-use Rattle.roster_model.specs.Sums.{tree_sum}
-use Rattle.bound_laws.proofs.least_values.LeastTrees.{trees-least}
-use Rattle.bound_laws.proofs.least_values.laws.have_least_sums.Goals as goal
-
-pub returns : goal.returns
-returns c = λ g p x sound. trees-least g sound x (tree_sum p 1)

@@ -1,5 +1,0 @@
-use Rattle.bound_laws.proofs.least_values.Values.{has-value}
-use Rattle.bound_laws.proofs.least_values.laws.have_values.Goals as goal
-
-pub returns : goal.returns
-returns c = λ i p cuts sound. has-value i p cuts sound

@@ -1,5 +1,0 @@
-use Rattle.bound_laws.proofs.linear_programs.RowLaws.{same_step}
-use Rattle.bound_laws.proofs.linear_programs.laws.row_steps_read_numbers.Goals as goal
-
-pub returns : goal.returns
-returns c = same_step

@@ -1,5 +1,0 @@
-use Rattle.bound_laws.proofs.linear_programs.Values.{dot_unit}
-use Rattle.bound_laws.proofs.linear_programs.laws.unit_vectors_pick.Goals as goal
-
-pub returns : goal.returns
-returns c = λ n r y h. dot_unit n r y h

@@ -1,5 +1,0 @@
-use Rattle.bound_laws.proofs.master_laws.WholeCountsLemmas.{meet_node}
-use Rattle.bound_laws.proofs.master_laws.laws.counts_meet.Goals as goal
-
-pub returns : goal.returns
-returns c = λ i cuts ws q listed value ts sound has have. meet_node i cuts ws q listed value sound has ts have

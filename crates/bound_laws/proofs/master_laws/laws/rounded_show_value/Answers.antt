@@ -1,5 +1,0 @@
-use Rattle.bound_laws.proofs.master_laws.RoundedValue.{rounded_value}
-use Rattle.bound_laws.proofs.master_laws.laws.rounded_show_value.Goals as goal
-
-pub returns : goal.returns
-returns c = rounded_value

@@ -1,5 +1,0 @@
-use Rattle.bound_laws.proofs.master_laws.RowSizes.{small}
-use Rattle.bound_laws.proofs.master_laws.laws.small_master.Goals as goal
-
-pub returns : goal.returns
-returns c = λ i cuts sound below. small i sound cuts below

@@ -1,5 +1,0 @@
-use Rattle.bound_laws.proofs.master_laws.Ends.{weights_apart}
-use Rattle.bound_laws.proofs.master_laws.laws.weights_apart.Goals as goal
-
-pub returns : goal.returns
-returns c = weights_apart

@@ -1,5 +1,0 @@
-use Rattle.bound_laws.proofs.master_laws.WideNumbers.{wide_rounding}
-use Rattle.bound_laws.proofs.master_laws.laws.wide_rounding.Goals as goal
-
-pub returns : goal.returns
-returns c = wide_rounding

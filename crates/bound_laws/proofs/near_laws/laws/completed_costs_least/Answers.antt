@@ -1,5 +1,0 @@
-use Rattle.bound_laws.proofs.near_laws.LeastCompleted.{outdone}
-use Rattle.bound_laws.proofs.near_laws.laws.completed_costs_least.Goals as goal
-
-pub returns : goal.returns
-returns c = λ i cuts ws q own owned solution. outdone i cuts ws q own owned solution

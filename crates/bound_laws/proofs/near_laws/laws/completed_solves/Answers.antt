@@ -1,5 +1,0 @@
-use Rattle.bound_laws.proofs.near_laws.CompletedLemmas.{completed_solves}
-use Rattle.bound_laws.proofs.near_laws.laws.completed_solves.Goals as goal
-
-pub returns : goal.returns
-returns c = completed_solves

@@ -1,5 +1,0 @@
-use Rattle.bound_laws.proofs.near_laws.NearBest.{near_best}
-use Rattle.bound_laws.proofs.near_laws.laws.near_are_best.Goals as goal
-
-pub returns : goal.returns
-returns c = near_best

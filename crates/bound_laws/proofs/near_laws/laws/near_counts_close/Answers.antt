@@ -1,5 +1,0 @@
-use Rattle.bound_laws.proofs.near_laws.NearCounts.{near_counts}
-use Rattle.bound_laws.proofs.near_laws.laws.near_counts_close.Goals as goal
-
-pub returns : goal.returns
-returns c = near_counts

@@ -1,5 +1,0 @@
-use Rattle.std.proofs.Common.{refl}
-use Rattle.bound_laws.proofs.near_laws.laws.worked_completed.Goals as goal
-
-pub returns : goal.returns
-returns c = record { met = refl; met_cost = refl; short = refl; short_cost = refl; more = refl; more_cost = refl }

@@ -1,7 +1,0 @@
-use Rattle.branch_price.proofs.branching.search_busy.Goals as goal
-
-pub search_at-found-requires-clause-bench : goal.search_at-found-requires-clause-bench
-search_at-found-requires-clause-bench g c = record {
-  is = record { tools = record { pool = c.requires.pool; desk = c.in_ok-bench.ensures.desk }; path = c.in_ok-bench.ensures.path };
-  root = c.in_ok-bench.ensures.root;
-}

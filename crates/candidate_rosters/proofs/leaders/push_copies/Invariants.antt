@@ -1,6 +1,0 @@
-use Rattle.std.proofs.Common.{◌≡◌, ◌++◌}
-use Rattle.candidate_rosters.specs.Leaders.{numbers_like}
-use Rattle.candidate_rosters.proofs.leaders.push_copies.Given as goal
-
-abbrev pub invariant-loop : goal.invariant-loop
-invariant-loop l = l.columns ≡ l.fn.columns ++ numbers_like l.counter l.column

@@ -1,4 +1,0 @@
-use Rattle.candidate_rosters.proofs.price.known_price.Given as goal
-
-abbrev pub invariant-loop-shift : goal.invariant-loop-shift
-invariant-loop-shift l = Unit {0}

@@ -1,6 +1,0 @@
-use Rattle.candidate_rosters.proofs.price.price_of.Goals as goal
-
-pub unreachable-requires : goal.unreachable-requires
-unreachable-requires c =
-    let its = c.requires.shift in
-    c.in_default.ensures.price its.team its.listed its.number its.shift

@@ -1,7 +1,0 @@
-use Rattle.std.proofs.Common.{◌≡◌, ◌++◌, map, take}
-use Rattle.text_lines.specs.Written.{written}
-use Rattle.certificate_text.specs.Written.{mult_words}
-use Rattle.certificate_text.proofs.write.mult_lines.Given as goal
-
-abbrev pub invariant-loop-mult : goal.invariant-loop-mult
-invariant-loop-mult l = l.out ≡ l.fn.out ++ written (map mult_words (take l.mult-index l.mults))

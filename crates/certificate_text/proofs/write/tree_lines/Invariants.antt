@@ -1,7 +1,0 @@
-use Rattle.std.proofs.Common.{◌≡◌, ◌++◌, take}
-use Rattle.text_lines.specs.Written.{written}
-use Rattle.certificate_text.specs.Written.{tree_lines}
-use Rattle.certificate_text.proofs.write.tree_lines.Given as goal
-
-abbrev pub invariant-loop-node : goal.invariant-loop-node
-invariant-loop-node l = l.out ≡ l.fn.out ++ written (tree_lines l.instance (take l.node-index l.nodes))

@@ -1,5 +1,0 @@
-use Rattle.certificates.proofs.certificate_laws.OneCause.{one-first}
-use Rattle.certificates.proofs.certificate_laws.laws.one_first_cause.Goals as goal
-
-pub returns : goal.returns
-returns c = λ i cert v w h k. one-first i cert v w h k

@@ -1,5 +1,0 @@
-use Rattle.certificates.proofs.growing_laws.BoxesLemmas.{few-nodes}
-use Rattle.certificates.proofs.growing_laws.laws.few_nodes.Goals as goal
-
-pub returns : goal.returns
-returns c = few-nodes

@@ -1,5 +1,0 @@
-use Rattle.certificates.proofs.growing_laws.StatesLemmas.{growing-few}
-use Rattle.certificates.proofs.growing_laws.laws.growing_few.Goals as goal
-
-pub returns : goal.returns
-returns c = growing-few

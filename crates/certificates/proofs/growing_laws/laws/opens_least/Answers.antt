@@ -1,5 +1,0 @@
-use Rattle.certificates.proofs.growing_laws.OpensLemmas.{opens-least}
-use Rattle.certificates.proofs.growing_laws.laws.opens_least.Goals as goal
-
-pub returns : goal.returns
-returns c = opens-least

@@ -1,5 +1,0 @@
-use Rattle.certificates.proofs.growing_laws.NodeCounts.{put-busy}
-use Rattle.certificates.proofs.growing_laws.laws.put_busy.Goals as goal
-
-pub returns : goal.returns
-returns c = put-busy

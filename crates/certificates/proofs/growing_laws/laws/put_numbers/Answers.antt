@@ -1,5 +1,0 @@
-use Rattle.certificates.proofs.growing_laws.SeatsLemmas.{put-numbers}
-use Rattle.certificates.proofs.growing_laws.laws.put_numbers.Goals as goal
-
-pub returns : goal.returns
-returns c = put-numbers

@@ -1,5 +1,0 @@
-use Rattle.certificates.proofs.growing_laws.GrownLemmas.{put-rises}
-use Rattle.certificates.proofs.growing_laws.laws.put_rises.Goals as goal
-
-pub returns : goal.returns
-returns c = put-rises

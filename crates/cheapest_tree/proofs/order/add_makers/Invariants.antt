@@ -1,5 +1,0 @@
-use Rattle.cheapest_tree.specs.Orders.{AreAdded}
-use Rattle.cheapest_tree.proofs.order.add_makers.Given as goal
-
-abbrev pub invariant-loop-index : goal.invariant-loop-index
-invariant-loop-index l = AreAdded l.graph l.links l.arcs l.initial.makers l.makers l.index

@@ -1,8 +1,0 @@
-use Rattle.std.proofs.Common.{List, length}
-use Rattle.cheapest_tree.specs.declared.slots.Spot.{Spot}
-use Rattle.cheapest_tree.specs.Links.{AreLinks}
-use Rattle.cheapest_tree.specs.Orders.{IsOrderBefore}
-use Rattle.cheapest_tree.proofs.order.find_order.Given as goal
-
-abbrev pub invariant-loop-place : goal.invariant-loop-place
-invariant-loop-place l = (letters : List Spot) → AreLinks l.graph letters l.links (length l.graph.arcs) → IsOrderBefore l.graph letters l.place l.order

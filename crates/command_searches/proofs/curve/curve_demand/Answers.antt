@@ -1,0 +1,14 @@
+use Rattle.std.specs.Option.{option_copied}
+use Rattle.command_shelf.specs.Shelf.{Told}
+use Rattle.command_searches.proofs.CurveAnswers.{demand-read, demand-unread}
+use Rattle.command_searches.proofs.curve.curve_demand.Goals as goal
+
+pub returns-in-Ok : goal.returns-in-Ok
+returns-in-Ok g c =
+    let before : Told = g.S.Shelf.told c.args.shelf.now in
+    let middle : Told = g.S.Shelf.told c.fetched.new.shelf in
+    let after : Told = g.S.Shelf.told c.curve_demand_text.new.shelf in
+    demand-read (option_copied c.args.group) c.args.proof.now _ c.args.limit before after c.curve_demand_text.result c.args.grammar c.args.demand.now c.in-Ok.text.items middle c.in-Ok.ensures.text (rw c.as_slice.ensures.value at c.curve_demand_text.ensures)
+
+pub returns-in-Err : goal.returns-in-Err
+returns-in-Err g c = demand-unread (option_copied c.args.group) c.args.proof.now _ c.args.limit _ _ c.in-Err.status c.args.grammar c.args.demand.now c.in-Err.ensures.refusal

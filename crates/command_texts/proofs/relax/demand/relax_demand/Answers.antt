@@ -1,0 +1,19 @@
+use Rattle.std.proofs.Common.{[], ◌∷◌}
+use Rattle.command_shelf.specs.Shelf.{Told}
+use Rattle.command_texts.specs.relax.Answers.{RelaxedDemand}
+use Rattle.command_texts.specs.relax.DayCommands.{DayCommand}
+use Rattle.command_texts.proofs.relax.Relaxings.{rules-fetched, not-fetched}
+use Rattle.command_texts.proofs.relax.demand.relax_demand.Goals as goal
+
+pub returns-in-Ok : goal.returns-in-Ok
+returns-in-Ok g c =
+    let before : Told = g.S.Shelf.told c.args.shelf.now in
+    let middle : Told = g.S.Shelf.told c.fetched.new.shelf in
+    let after : Told = g.S.Shelf.told c.relax_by_rules.new.shelf in
+    rules-fetched (RelaxedDemand c.args.kind) c.args.rules.now c.args.demand.now c.in-Ok.text.items before middle after c.relax_by_rules.result c.in-Ok.ensures.text (rw c.as_slice.ensures.value at c.relax_by_rules.ensures)
+
+pub returns-in-Err : goal.returns-in-Err
+returns-in-Err g c =
+    let before : Told = g.S.Shelf.told c.args.shelf.now in
+    let after : Told = g.S.Shelf.told c.fetched.new.shelf in
+    not-fetched (DayCommand (RelaxedDemand c.args.kind) before.held c.args.rules.now c.args.demand.now) c.args.rules.now (c.args.demand.now ∷ []) before after c.in-Err.status c.in-Err.ensures.refusal

@@ -1,0 +1,5 @@
+use Rattle.std.proofs.Common.{length}
+use Rattle.command_texts.proofs.what_if.gone.counts_of.Given as goal
+
+abbrev pub decreases-loop-item : goal.decreases-loop-item
+decreases-loop-item l = length l.lines

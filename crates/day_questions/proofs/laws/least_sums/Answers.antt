@@ -1,5 +1,0 @@
-use Rattle.day_questions.proofs.PatternLaws.{least-sums}
-use Rattle.day_questions.proofs.laws.least_sums.Goals as goal
-
-pub returns : goal.returns
-returns c = least-sums

@@ -1,5 +1,0 @@
-use Rattle.day_questions.proofs.PatternLaws.{marginal-prices}
-use Rattle.day_questions.proofs.laws.marginal_prices.Goals as goal
-
-pub returns : goal.returns
-returns c = marginal-prices

@@ -1,5 +1,0 @@
-use Rattle.day_questions.proofs.OnceLemmas.{one-next}
-use Rattle.day_questions.proofs.laws.one_next_answer.Goals as goal
-
-pub returns : goal.returns
-returns c = one-next

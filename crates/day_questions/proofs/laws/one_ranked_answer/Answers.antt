@@ -1,5 +1,0 @@
-use Rattle.day_questions.proofs.OnceLemmas.{one-ranked}
-use Rattle.day_questions.proofs.laws.one_ranked_answer.Goals as goal
-
-pub returns : goal.returns
-returns c = one-ranked

@@ -1,5 +1,0 @@
-use Rattle.day_questions.proofs.PatternLaws.{pattern-sums}
-use Rattle.day_questions.proofs.laws.pattern_sums.Goals as goal
-
-pub returns : goal.returns
-returns c = pattern-sums

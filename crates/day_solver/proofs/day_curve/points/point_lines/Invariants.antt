@@ -1,8 +1,0 @@
-use Rattle.std.specs.Option.{option_copied}
-use Rattle.std.proofs.Common.{◌≡◌, ◌++◌, map, take}
-use Rattle.text_lines.specs.Written.{written}
-use Rattle.day_solver.specs.day_curve.CurveText.{point_words}
-use Rattle.day_solver.proofs.day_curve.points.point_lines.Given as goal
-
-abbrev pub invariant-loop-point : goal.invariant-loop-point
-invariant-loop-point l = l.out ≡ l.fn.out ++ written (map (point_words (option_copied l.group)) (take l.point-index l.points))

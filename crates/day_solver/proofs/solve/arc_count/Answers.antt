@@ -1,5 +1,0 @@
-use Rattle.day_solver.proofs.ArcCounts.{graph-count}
-use Rattle.day_solver.proofs.solve.arc_count.Goals as goal
-
-pub returns : goal.returns
-returns c g is = rw c.arcs.ensures.arcs (graph-count g c.args.graph.now is)

@@ -1,7 +1,0 @@
-use Rattle.std.proofs.Common.{◌≡◌, ◌++◌, take}
-use Rattle.demand_text.specs.Written.{numbers_of}
-use Rattle.text_lines.specs.Written.{tail}
-use Rattle.demand_text.proofs.number_of.numbers.Given as goal
-
-abbrev pub invariant-loop-cell : goal.invariant-loop-cell
-invariant-loop-cell l = l.out ≡ l.fn.out ++ tail (numbers_of l.which (take l.cell-index l.cells))

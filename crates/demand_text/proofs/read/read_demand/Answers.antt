@@ -1,5 +1,0 @@
-use Rattle.demand_text.proofs.DraftKept.{draft_keeps}
-use Rattle.demand_text.proofs.read.read_demand.Goals as goal
-
-pub finish-requires-clause-draft : goal.finish-requires-clause-draft
-finish-requires-clause-draft c = draft_keeps c.args.grammar c.args.text.now c.in_ok-draft.draft c.in_ok-draft.ensures

@@ -1,7 +1,0 @@
-use Rattle.std.proofs.Common.{◌≡◌, ◌++◌, take, map}
-use Rattle.text_lines.specs.Written.{written}
-use Rattle.demand_text.specs.Written.{group_line}
-use Rattle.demand_text.proofs.write.group_lines.Given as goal
-
-abbrev pub invariant-loop-group : goal.invariant-loop-group
-invariant-loop-group l = l.out ≡ l.fn.out ++ written (map (group_line l.names) (take l.group-index l.groups))

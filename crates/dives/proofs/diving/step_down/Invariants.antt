@@ -1,9 +1,0 @@
-use Rattle.std.proofs.Common.{length}
-use Rattle.dives.specs.Parts.{IsProgram, StayTools}
-use Rattle.dives.proofs.diving.step_down.Given as goal
-
-abbrev pub invariant-loop : goal.invariant-loop
-invariant-loop g l = record {
-  program : IsProgram (length l.pool) l.descent.program;
-  tools : StayTools l.task l.order l.fn.pool l.pool l.descent.desk;
-}

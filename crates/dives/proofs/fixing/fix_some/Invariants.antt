@@ -1,9 +1,0 @@
-use Rattle.std.proofs.Common.{length}
-use Rattle.dives.specs.Parts.{IsProgram, StayTools}
-use Rattle.dives.proofs.fixing.fix_some.Given as goal
-
-abbrev pub invariant-loop : goal.invariant-loop
-invariant-loop l = record {
-  program : IsProgram (length l.pool) l.descent.program;
-  tools : StayTools l.task l.order l.fn.pool l.pool l.descent.desk;
-}

@@ -1,6 +1,0 @@
-use Rattle.findings.specs.Findings.{OfGroup}
-use Rattle.findings.specs.Listed.{Adds, OfFirst}
-use Rattle.findings.proofs.demand.add_groups.Given as goal
-
-abbrev pub invariant-loop-place : goal.invariant-loop-place
-invariant-loop-place l = Adds (OfFirst (OfGroup l.shifts.own.now l.shifts.day.now l.groups) l.place) l.fn.found l.found

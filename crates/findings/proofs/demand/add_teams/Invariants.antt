@@ -1,6 +1,0 @@
-use Rattle.findings.specs.Findings.{OfTeam}
-use Rattle.findings.specs.Listed.{Adds, OfFirst}
-use Rattle.findings.proofs.demand.add_teams.Given as goal
-
-abbrev pub invariant-loop-name : goal.invariant-loop-name
-invariant-loop-name l = Adds (OfFirst (OfTeam l.own l.groups) l.name) l.fn.found l.found

@@ -1,5 +1,0 @@
-use Rattle.fraction.proofs.pivot_rows.Steps.{a_step}
-use Rattle.fraction.proofs.pivot_rows.laws.row_steps_exist.Goals as goal
-
-pub returns : goal.returns
-returns c = a_step

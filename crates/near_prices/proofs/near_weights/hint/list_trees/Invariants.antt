@@ -1,6 +1,0 @@
-use Rattle.std.proofs.Common.{◌≤◌, ◌^◌, All, length}
-use Rattle.near_prices.specs.Listed.{IsListed}
-use Rattle.near_prices.proofs.near_weights.hint.list_trees.Given as goal
-
-abbrev pub invariant-loop-place : goal.invariant-loop-place
-invariant-loop-place l = (All (IsListed l.count) l.listed) × (length l.listed ≤ 2 ^ 13)

@@ -1,8 +1,0 @@
-use Rattle.node_columns.proofs.HeldColumns.{there}
-use Rattle.node_columns.proofs.columns.NodeColumnsColumns.count.Goals as goal
-
-pub returns-clause-keys : goal.returns-clause-keys
-returns-clause-keys g c = λ j h.
-    let x = there c.args.self.now.desk.now.held j h in
-    let is = c.requires.desk.held.each j x.0 x.1 in
-    (is.some.0, record { one = x.0; at = x.1; key = is.some.1 }, (is.tells is.some.0 is.some.1).belongs)

@@ -1,5 +1,0 @@
-use Rattle.node_columns.specs.Several.{StayPriced}
-use Rattle.node_columns.proofs.several.list_at_root.Given as goal
-
-abbrev pub invariant-loop : goal.invariant-loop
-invariant-loop l = StayPriced l.task l.pricer l.fn.pool l.pool l.desk

@@ -1,6 +1,0 @@
-use Rattle.std.proofs.Common.{drop}
-use Rattle.node_master.specs.Listed.{AscendFrom}
-use Rattle.node_master.proofs.listed.ascend.Given as goal
-
-abbrev pub invariant-loop-tree : goal.invariant-loop-tree
-invariant-loop-tree l = AscendFrom l.next (drop l.tree-index l.listed) → AscendFrom 0 l.listed

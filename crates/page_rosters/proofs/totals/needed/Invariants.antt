@@ -1,0 +1,9 @@
+use Rattle.std.proofs.Common.{◌≡◌, ◌≤◌, ◌*◌, ◌^◌, drop}
+use Rattle.page_rosters.specs.TotalLines.{needed}
+use Rattle.page_rosters.proofs.totals.needed.Given as goal
+
+abbrev pub invariant-loop-column : goal.invariant-loop-column
+invariant-loop-column l = record {
+  sum : needed l.code l.columns 0 ≡ needed l.code (drop l.column-index l.columns) l.sum;
+  small : l.sum ≤ 2 ^ 32 * l.column-index;
+}

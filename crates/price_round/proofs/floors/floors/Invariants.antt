@@ -1,8 +1,0 @@
-use Rattle.std.proofs.Common.{◌≡◌, ◌^◌, All, take}
-use Rattle.roster_model.specs.Sums.{Within}
-use Rattle.bound_laws.specs.master_laws.Rounding.{AreFloors}
-use Rattle.price_round.proofs.floors.floors.Given as goal
-
-abbrev pub invariant-loop-number : goal.invariant-loop-number
-invariant-loop-number l =
-    (l.tally ≡ l.fn.tally) × AreFloors l.kappa l.d (take l.number-index l.numbers) l.floors × All (Within (2 ^ 80)) l.floors

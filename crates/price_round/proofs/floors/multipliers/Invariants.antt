@@ -1,6 +1,0 @@
-use Rattle.std.proofs.Common.{◌≡◌, take}
-use Rattle.price_round.specs.Floors.{AreMultsOf}
-use Rattle.price_round.proofs.floors.multipliers.Given as goal
-
-abbrev pub invariant-loop-index : goal.invariant-loop-index
-invariant-loop-index l = (l.tally ≡ l.fn.tally) × AreMultsOf l.kappa l.d (take l.index l.cuts) (take l.index l.numbers) l.mults

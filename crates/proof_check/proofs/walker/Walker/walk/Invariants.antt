@@ -1,5 +1,0 @@
-use Rattle.proof_check.specs.Verdicts.{IsInWalk}
-use Rattle.proof_check.proofs.walker.Walker.walk.Given as goal
-
-abbrev pub invariant-loop-node : goal.invariant-loop-node
-invariant-loop-node l = IsInWalk l.instance l.nodes l.node-index l.fn.self l.self l.walk

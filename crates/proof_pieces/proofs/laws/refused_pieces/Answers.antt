@@ -1,5 +1,0 @@
-use Rattle.proof_pieces.proofs.RefusedPieces.{text_refused}
-use Rattle.proof_pieces.proofs.laws.refused_pieces.Goals as goal
-
-pub returns : goal.returns
-returns c = text_refused

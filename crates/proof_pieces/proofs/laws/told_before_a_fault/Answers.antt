@@ -1,5 +1,0 @@
-use Rattle.proof_pieces.proofs.ToldFronts.{told_front}
-use Rattle.proof_pieces.proofs.laws.told_before_a_fault.Goals as goal
-
-pub returns : goal.returns
-returns c = told_front

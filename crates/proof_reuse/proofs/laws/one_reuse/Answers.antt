@@ -1,5 +1,0 @@
-use Rattle.proof_reuse.proofs.OneAnswer.{one-answer}
-use Rattle.proof_reuse.proofs.laws.one_reuse.Goals as goal
-
-pub returns : goal.returns
-returns c = λ i cert a b h k. one-answer i cert a b h k

@@ -1,9 +1,0 @@
--- A candidate whose first frame is looked at.
-use Rattle.std.specs.Prelude.{ℤ, List, ◌∷◌}
-use Rattle.roster_model.specs.declared.grammar.Step.{Step}
-use Rattle.ranked_trees.specs.declared.candidate.Candidate.{Candidate}
-use Rattle.ranked_trees.specs.declared.frame.Frame.{Frame}
-
--- a candidate with a frame that comes first
-abbrev pub first_with : ℤ → List Step → Frame → List Frame → Candidate
-first_with sum ss f fs = record { sum = sum; steps = ss; pending = f ∷ fs }

@@ -1,6 +1,0 @@
-use Rattle.roster_csv.specs.Coverages.{head_row}
-use Rattle.roster_csv.proofs.coverage.add_head.Goals as goal
-
-pub returns : goal.returns
-unfolding head_row
-returns c = c.add_row.ensures

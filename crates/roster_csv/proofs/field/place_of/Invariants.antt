@@ -1,9 +1,0 @@
-use Rattle.std.proofs.Common.{◌≡◌, drop}
-use Rattle.roster_csv.specs.Rows.{place_from, place_of}
-use Rattle.roster_csv.proofs.field.place_of.Given as goal
-
-abbrev pub invariant-loop-code : goal.invariant-loop-code
-invariant-loop-code l = record {
-  found : place_of l.codes l.byte ≡ place_from l.byte l.place (drop l.code-index l.codes) l.found;
-  place : l.place ≡ l.code-index;
-}

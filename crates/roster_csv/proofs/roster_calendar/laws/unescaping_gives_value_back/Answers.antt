@@ -1,5 +1,0 @@
-use Rattle.roster_csv.proofs.roster_calendar.EscapeLemmas.{value_back}
-use Rattle.roster_csv.proofs.roster_calendar.laws.unescaping_gives_value_back.Goals as goal
-
-pub returns : goal.returns
-returns c = value_back

@@ -1,5 +1,0 @@
-use Rattle.roster_csv.proofs.roster_calendar.FoldLemmas.{lines_back}
-use Rattle.roster_csv.proofs.roster_calendar.laws.unfolding_gives_lines_back.Goals as goal
-
-pub returns : goal.returns
-returns c = lines_back

@@ -1,5 +1,0 @@
-use Rattle.roster_model.proofs.arc_laws.Totals.{node_once}
-use Rattle.roster_model.proofs.arc_laws.laws.made_once.Goals as goal
-
-pub returns : goal.returns
-returns c = λ g t o sound day. node_once g sound t o day

@@ -1,5 +1,0 @@
-use Rattle.roster_model.proofs.arc_laws.OneList.{one-list}
-use Rattle.roster_model.proofs.arc_laws.laws.one_list.Goals as goal
-
-pub returns : goal.returns
-returns c = λ g xs ys h k. one-list g xs ys h k

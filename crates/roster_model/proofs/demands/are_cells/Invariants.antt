@@ -1,9 +1,0 @@
-use Rattle.std.proofs.Common.{◌↔◌, length}
-use Rattle.roster_model.specs.Demands.{AreCells}
-use Rattle.roster_model.proofs.demands.are_cells.Given as goal
-
-abbrev pub decreases-loop-rest : goal.decreases-loop-rest
-decreases-loop-rest l = length l.rest
-
-abbrev pub invariant-loop-rest : goal.invariant-loop-rest
-invariant-loop-rest l = AreCells l.grammar l.cells ↔ AreCells l.grammar l.rest

@@ -1,5 +1,0 @@
-use Rattle.roster_model.proofs.AgreementLemmas.{tree_same}
-use Rattle.roster_model.proofs.price_laws.agreeing_sums.Goals as goal
-
-pub returns : goal.returns
-returns c = λ g p q s agree x t h. tree_same g p q s.rules agree x t h

@@ -1,6 +1,0 @@
-use Rattle.std.proofs.Common.{◌↔◌, drop}
-use Rattle.roster_model.specs.Sound.{appearances, AreInOrder}
-use Rattle.roster_model.proofs.sound.are_in_order.Given as goal
-
-abbrev pub invariant-loop-rule : goal.invariant-loop-rule
-invariant-loop-rule l = AreInOrder 0 (appearances l.rules) ↔ AreInOrder l.known (appearances (drop l.rule-index l.rules))

@@ -1,6 +1,0 @@
-use Rattle.std.proofs.Common.{◌≡◌, ℕ, ◌<◌, true}
-use Rattle.roster_model.specs.Sound.{has_rule}
-use Rattle.roster_model.proofs.sound.have_rules.Given as goal
-
-abbrev pub invariant-loop-name : goal.invariant-loop-name
-invariant-loop-name l = (x : ℕ) → x < l.name → has_rule l.rules x ≡ true

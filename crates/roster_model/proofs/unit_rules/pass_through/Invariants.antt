@@ -1,5 +1,0 @@
-use Rattle.roster_model.proofs.ReachBits.{HasPassed}
-use Rattle.roster_model.proofs.unit_rules.pass_through.Given as goal
-
-abbrev pub invariant-loop-row : goal.invariant-loop-row
-invariant-loop-row l = HasPassed l.fn.reach l.reach l.pivot l.row-index

@@ -1,5 +1,0 @@
-use Rattle.roster_model.proofs.StepRules.{HasSteps}
-use Rattle.roster_model.proofs.unit_rules.steps.Given as goal
-
-abbrev pub invariant-loop-rule : goal.invariant-loop-rule
-invariant-loop-rule l = HasSteps l.grammar l.rule-index l.reach

@@ -1,5 +1,0 @@
-use Rattle.roster_model.proofs.word_prices.Costs.{shift-length}
-use Rattle.roster_model.proofs.word_prices.laws.shift_length.Goals as goal
-
-pub returns : goal.returns
-returns c = shift-length

@@ -1,7 +1,0 @@
--- What rounding prices to whole numbers may take off the Lagrangian value.
-use Rattle.std.specs.Prelude.{ℕ, ◌+◌, ◌*◌, length}
-use Rattle.roster_model.specs.declared.instance.Instance.{Instance}
-
--- with this many cuts
-abbrev pub rounding_loss : Instance → ℕ → ℕ
-rounding_loss i cuts = i.heads_max * (i.grammar.periods + 2 * cuts + length i.cells)

@@ -1,7 +1,0 @@
-use Rattle.std.proofs.Common.{◌≡◌, ◌++◌, map, take}
-use Rattle.certificates.specs.RosterCauses.{duties}
-use Rattle.roster_report.specs.Reports.{cell_cover}
-use Rattle.roster_report.proofs.cover.add_covers.Given as goal
-
-abbrev pub invariant-loop-cell : goal.invariant-loop-cell
-invariant-loop-cell l = l.out ≡ l.fn.out ++ map (cell_cover l.grammar (duties l.shifts)) (take l.cell-index l.cells)

@@ -1,6 +1,0 @@
-use Rattle.std.proofs.Common.{◌≡◌, map, take}
-use Rattle.roster_tables.specs.RunLines.{run_line}
-use Rattle.roster_tables.proofs.runs.run_lines.Given as goal
-
-abbrev pub invariant-loop-run : goal.invariant-loop-run
-invariant-loop-run l = l.lines ≡ map (run_line l.codes l.labels) (take l.run-index l.runs)

@@ -1,5 +1,0 @@
-use Rattle.roster_value.specs.Answers as answers
-use Rattle.roster_value.proofs.answer.causes_answer.Goals as goal
-
-pub returns : goal.returns
-returns c = answers.refused c.in_ok-causes_output.field-0 (record { causes = c.args.causes.now; are = c.requires.causes; text = c.in_ok-causes_output.ensures })

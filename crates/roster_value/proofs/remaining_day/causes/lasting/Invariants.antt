@@ -1,7 +1,0 @@
-use Rattle.std.proofs.Common.{◌≡◌, take}
-use Rattle.std.specs.Prelude.{filter}
-use Rattle.roster_value.specs.remaining_day.Causes.{is_lasting}
-use Rattle.roster_value.proofs.remaining_day.causes.lasting.Given as goal
-
-abbrev pub invariant-loop-cause : goal.invariant-loop-cause
-invariant-loop-cause l = l.out ≡ filter is_lasting (take l.cause-index l.causes)

@@ -1,7 +1,0 @@
-use Rattle.std.proofs.Common.{◌≡◌, take, map}
-use Rattle.certificates.specs.RosterCauses.{duties}
-use Rattle.roster_value.specs.remaining_day.Remaining.{cell_left}
-use Rattle.roster_value.proofs.remaining_day.cells.cells_left.Given as goal
-
-abbrev pub invariant-loop-cell : goal.invariant-loop-cell
-invariant-loop-cell l = l.left ≡ map (cell_left l.grammar (duties l.shifts)) (take l.cell-index l.cells)

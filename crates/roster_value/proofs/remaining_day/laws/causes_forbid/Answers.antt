@@ -1,5 +1,0 @@
-use Rattle.roster_value.proofs.remaining_day.CausesLemmas.{never_kept}
-use Rattle.roster_value.proofs.remaining_day.laws.causes_forbid.Goals as goal
-
-pub returns : goal.returns
-returns c = λ i kept found causes prices all some. never_kept i kept found causes prices all some

@@ -1,5 +1,0 @@
-use Rattle.roster_value.proofs.remaining_day.DaysLeft.{has-rest}
-use Rattle.roster_value.proofs.remaining_day.laws.rest_is_right.Goals as goal
-
-pub returns : goal.returns
-returns c = λ g i kept prices sound by day first within some. has-rest g sound kept i prices by day first within some

@@ -1,5 +1,0 @@
-use Rattle.roster_value.proofs.stated_rosters.RefusedLines.{refused_line as law}
-use Rattle.roster_value.proofs.stated_rosters.laws.refused_line.Goals as goal
-
-pub returns : goal.returns
-returns c = law

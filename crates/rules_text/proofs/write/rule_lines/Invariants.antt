@@ -1,7 +1,0 @@
-use Rattle.std.proofs.Common.{◌≡◌, ◌++◌, take, map}
-use Rattle.text_lines.specs.Written.{written}
-use Rattle.rules_text.specs.Written.{rule_line}
-use Rattle.rules_text.proofs.write.rule_lines.Given as goal
-
-abbrev pub invariant-loop-rule : goal.invariant-loop-rule
-invariant-loop-rule l = l.out ≡ l.fn.out ++ written (map (rule_line l.codes l.names) (take l.rule-index l.rules))

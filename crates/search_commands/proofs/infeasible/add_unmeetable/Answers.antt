@@ -1,5 +1,0 @@
-use Rattle.std.proofs.Common.{rules}
-use Rattle.search_commands.proofs.infeasible.add_unmeetable.Goals as goal
-
-pub add_cells-requires : goal.add_cells-requires
-add_cells-requires c = c.fill.ensures.kept c.args.instance.now.grammar (search rules)

@@ -1,5 +1,0 @@
-use Rattle.std.proofs.Common.{rules}
-use Rattle.search_commands.proofs.infeasible.add_unstaffable.Goals as goal
-
-pub add_teams-requires-clause-made : goal.add_teams-requires-clause-made
-add_teams-requires-clause-made c = c.least.ensures.kept c.args.instance.now.grammar (search rules)

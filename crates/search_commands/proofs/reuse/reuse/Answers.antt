@@ -1,6 +1,0 @@
-use Rattle.answers.proofs.SaysLemmas.{asks-cert}
-use Rattle.search_commands.specs.Reuse.{Reusing}
-use Rattle.search_commands.proofs.reuse.reuse.Goals as goal
-
-pub returns : goal.returns
-returns g c = asks-cert Reusing c.args.rules.now c.args.demand.now c.args.proof.now _ _ c.ask.result c.ask.ensures

@@ -1,0 +1,20 @@
+use Rattle.std.proofs.Common.{List, ◌≤◌, length, arith, sym, subst}
+use Rattle.model_rosters.specs.declared.instance.Shift.{Shift}
+use Rattle.model_rosters.specs.Folds.{Each}
+use Rattle.check_certificates.specs.Sound.{IsSoundShift}
+use Rattle.search_days.specs.Solutions.{IsDaySolved}
+use Rattle.search_days.proofs.solve.solve_day.Goals as goal
+
+pub solved-solution-requires : goal.solved-solution-requires
+solved-solution-requires g c = record {
+  day = record { sound = c.requires.sound; graph = c.in_ok-graph.ensures.graph };
+  some = c.requires.some;
+  few = c.requires.few;
+  shifts = subst (λ (ss : List Shift). Each (IsSoundShift c.args.instance.now) ss) (sym c.none.ensures.shifts) tt;
+  few_shifts = subst (λ (ss : List Shift). length ss ≤ 64) (sym c.none.ensures.shifts) (omega arith);
+}
+
+pub returns-clause-solution : goal.returns-clause-solution
+returns-clause-solution g c =
+    subst (λ (ss : List Shift). IsDaySolved c.args.instance.now c.args.turns ss (g.W.Watch.patient c.args.watch.now) (g.M.Master.strict c.args.master.now) (g.M.Master.refused c.args.master.now) (g.M.Master.refused c.solved-solution.new.master) c.in_ok-solution.field-0)
+    c.none.ensures.shifts c.in_ok-solution.ensures.solution

@@ -1,0 +1,8 @@
+use Rattle.search_moves.specs.Tools.{AreTools, StayTools}
+use Rattle.search_moves.proofs.descending.descend_at.Given as goal
+
+abbrev pub invariant-loop : goal.invariant-loop
+invariant-loop g l = record {
+  tools : AreTools l.day l.pricing l.pool l.draft;
+  stay : StayTools l.day l.fn.pricing l.pricing l.fn.pool l.pool;
+}

@@ -1,5 +1,0 @@
-use Rattle.shift_figures.proofs.StretchLemmas.{stretches_back}
-use Rattle.shift_figures.proofs.laws.stretches_give_word_back.Goals as goal
-
-pub returns : goal.returns
-returns c = stretches_back

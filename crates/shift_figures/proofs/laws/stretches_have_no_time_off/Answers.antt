@@ -1,5 +1,0 @@
-use Rattle.shift_figures.proofs.StretchLemmas.{stretches_on}
-use Rattle.shift_figures.proofs.laws.stretches_have_no_time_off.Goals as goal
-
-pub returns : goal.returns
-returns c = stretches_on

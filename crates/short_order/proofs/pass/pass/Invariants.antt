@@ -1,5 +1,0 @@
-use Rattle.short_order.specs.Best.{AreBest}
-use Rattle.short_order.proofs.pass.pass.Given as goal
-
-abbrev pub invariant-loop-row : goal.invariant-loop-row
-invariant-loop-row g l = record { best : AreBest l.graph l.best.items }

@@ -1,8 +1,0 @@
-use Rattle.std.proofs.Common.{sym, subst}
-use Rattle.span_cells.specs.Cells.{AreFilled}
-use Rattle.span_arcs.specs.Marks.{free_view}
-use Rattle.span_arcs.specs.DayArcs.{DayArcsView}
-use Rattle.span_arcs.proofs.day_arcs.DayArcs.has_arc.Goals as goal
-
-pub is_arc-requires-clause-filled : goal.is_arc-requires-clause-filled
-is_arc-requires-clause-filled c = subst (λ (t : DayArcsView). AreFilled c.args.grammar.now free_view t.layout t.free) (sym c.self.view_is) c.requires.arcs.derived

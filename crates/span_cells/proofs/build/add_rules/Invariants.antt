@@ -1,5 +1,0 @@
-use Rattle.span_cells.specs.Building.{SuffixSlots}
-use Rattle.span_cells.proofs.build.add_rules.Given as goal
-
-abbrev pub invariant-loop-index : goal.invariant-loop-index
-invariant-loop-index l = SuffixSlots l.grammar l.slots l.starts l.index

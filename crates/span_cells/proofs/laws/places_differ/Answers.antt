@@ -1,5 +1,0 @@
-use Rattle.span_cells.proofs.FormRows.{place-apart}
-use Rattle.span_cells.proofs.laws.places_differ.Goals as goal
-
-pub returns : goal.returns
-returns c = place-apart

@@ -1,5 +1,0 @@
-use Rattle.span_cells.specs.Lengths.{HoldNames, HoldRules}
-use Rattle.span_cells.proofs.lengths.name_lengths.Given as goal
-
-abbrev pub invariant-loop-index : goal.invariant-loop-index
-invariant-loop-index l = HoldNames l.grammar l.names → HoldRules l.grammar l.name l.index l.lengths

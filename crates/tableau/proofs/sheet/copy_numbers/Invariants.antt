@@ -1,5 +1,0 @@
-use Rattle.tableau.specs.Sheet.{AreCopied}
-use Rattle.tableau.proofs.sheet.copy_numbers.Given as goal
-
-abbrev pub invariant-loop-i : goal.invariant-loop-i
-invariant-loop-i l = AreCopied l.i l.numbers l.row

@@ -1,6 +1,0 @@
-use Rattle.std.proofs.Common.{arith}
-use Rattle.tableau.proofs.Places.{units_at}
-use Rattle.tableau.proofs.small.check_entries.Goals as goal
-
-pub returns-clause-units : goal.returns-clause-units
-returns-clause-units c = units_at c.args.places.now (λ k h. c.loop-place.invariant.units k (omega arith))

@@ -1,9 +1,0 @@
--- Faults of columns as those of a program.
-use Rattle.tableau.specs.declared.columns.ColumnsFault.{ColumnsFault}
-use Rattle.tableau.specs.declared.columns.ColumnsFault.TheVariants.{Wide, Memory}
-use Rattle.tableau.specs.declared.simplex.LpFault.{LpFault}
-use Rattle.tableau.specs.declared.simplex.LpFault.TheVariants.{Wide as LpWide, Memory as LpMemory}
-
-abbrev pub fault_of : ColumnsFault → LpFault
-fault_of (Wide fault) = LpWide fault
-fault_of Memory = LpMemory

@@ -1,9 +1,0 @@
-use Rattle.text_commands.specs.Check.{Judgement}
-use Rattle.text_commands.proofs.Checks.{proof-judged, proof-refused}
-use Rattle.text_commands.proofs.check.judgement.Goals as goal
-
-pub returns-in-Said : goal.returns-in-Said
-returns-in-Said c = proof-judged c.args.instance.now c.args.text.now c.in-Said.verdict c.verdict_answer.result (rw c.in-Said.is at c.in_ok-verdict.ensures) c.verdict_answer.ensures
-
-pub returns-in-Fault : goal.returns-in-Fault
-returns-in-Fault c = proof-refused Judgement c.args.instance.now c.args.text.now c.in-Fault.fault c.proof_refusal.result (rw c.in-Fault.is at c.in_ok-verdict.ensures) c.proof_refusal.ensures

@@ -1,5 +1,0 @@
-use Rattle.std.proofs.Common.{length}
-use Rattle.text_commands.proofs.text_places.has_word.Given as goal
-
-abbrev pub decreases-loop-other : goal.decreases-loop-other
-decreases-loop-other l = length l.words

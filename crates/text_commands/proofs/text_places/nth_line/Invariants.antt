@@ -1,5 +1,0 @@
-use Rattle.std.proofs.Common.{length}
-use Rattle.text_commands.proofs.text_places.nth_line.Given as goal
-
-abbrev pub decreases-loop-item : goal.decreases-loop-item
-decreases-loop-item l = length l.lines

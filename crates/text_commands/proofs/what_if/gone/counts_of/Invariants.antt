@@ -1,5 +1,0 @@
-use Rattle.std.proofs.Common.{length}
-use Rattle.text_commands.proofs.what_if.gone.counts_of.Given as goal
-
-abbrev pub decreases-loop-item : goal.decreases-loop-item
-decreases-loop-item l = length l.lines

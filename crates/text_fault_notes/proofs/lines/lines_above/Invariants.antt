@@ -1,0 +1,5 @@
+use Rattle.std.proofs.Common.{length}
+use Rattle.text_fault_notes.proofs.lines.lines_above.Given as goal
+
+abbrev pub decreases-loop-item : goal.decreases-loop-item
+decreases-loop-item l = length l.lines

@@ -1,0 +1,10 @@
+-- Reading a rules text step by step.
+pub use Rattle.text_lines.specs.Steps.{◌>>=◌, each}
+use Rattle.std.specs.Prelude.{Result}
+use Rattle.text_lines.specs.Steps as steps
+use Rattle.text_rules.specs.declared.fault.RulesFault.{RulesFault}
+use Rattle.text_rules.specs.declared.fault.RulesFault.TheVariants.{Memory}
+
+-- what a call gave, seen by view, is what the text says, unless memory ran out
+abbrev pub Reads : {A B : Type 0} → (A → B) → Result A RulesFault → Result B RulesFault → Type 0
+Reads view result said = steps.Reads Memory view result said
