@@ -46,7 +46,7 @@ pub fn say_answer<S: Shelf>(shelf: &mut S, answer: Result<Answer, Memory>) -> u8
 }
 
 /// Returns the status of an answer, or that of want of memory.
-pub(crate) fn status_of_answer(answer: &Result<Answer, Memory>) -> u8 {
+pub fn status_of_answer(answer: &Result<Answer, Memory>) -> u8 {
     match answer {
         Ok(answer) => answer.status,
         Err(Memory) => MEMORY,

@@ -15,7 +15,7 @@ mod saying;
 pub use answer::Answer;
 pub use asking::{ask, ask_rules_text, ask_texts};
 pub use encoding::note_encoding;
-pub use fetch::{fetched, note_remark, say_answer, say_answer_to, say_remarked};
+pub use fetch::{fetched, note_remark, say_answer, say_answer_to, say_remarked, status_of_answer};
 pub use limits::{MOST_DEMAND, MOST_PROOF, MOST_RULES};
 pub use question::Question;
 pub use refusals::{demand_refusal, proof_refusal, rules_refusal};

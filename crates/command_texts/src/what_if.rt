@@ -7,3 +7,5 @@ mod limits;
 pub mod rest;
 pub mod value;
 mod wrong;
+
+pub use wrong::{both, fault_remark};

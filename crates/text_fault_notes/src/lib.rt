@@ -14,6 +14,9 @@ mod rules_words;
 
 pub use bytes::comment_note;
 pub use demand::demand_note;
+pub use lines::listed;
+pub use numbers::{Numbers, Range, number_note, within};
 pub use proof::proof_note;
+pub use refused::{Words, count_note, line_note, shown, text_note, word_note};
 pub use roster::{RosterWrong, roster_note};
 pub use rules::rules_note;

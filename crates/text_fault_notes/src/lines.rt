@@ -14,17 +14,22 @@ pub(crate) struct Found<'a> {
     pub(crate) before: usize,
 }
 
-/// Returns the words of a line.
-pub(crate) fn words_of<'a>(alloc: Global, line: &Line<'a>) -> Option<Words<'a>> {
+/// Returns the words that a cursor over those of a line of this number still has.
+pub fn listed<'a>(
+    alloc: Global,
+    number: u32,
+    words: &mut text_lines::Words<'a>,
+) -> Option<Words<'a>> {
     let mut list = Vec::new(alloc);
-    let mut words = line.words();
     while let Some(word) = words.next() {
         list.push(word).ok()?;
     }
-    Some(Words {
-        number: line.number(),
-        list,
-    })
+    Some(Words { number, list })
+}
+
+/// Returns the words of a line.
+pub(crate) fn words_of<'a>(alloc: Global, line: &Line<'a>) -> Option<Words<'a>> {
+    listed(alloc, line.number(), &mut line.words())
 }
 
 /// Returns the line of a number, where it has words.

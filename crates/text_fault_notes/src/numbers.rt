@@ -6,19 +6,21 @@ use text_lines::{NumberFault, read_natural};
 
 /// From where to where a number may be.
 #[derive(Clone, Copy)]
-pub(crate) struct Range {
-    pub(crate) low: u128,
-    pub(crate) high: u128,
+pub struct Range {
+    /// The least number.
+    pub low: u128,
+    /// The greatest number.
+    pub high: u128,
 }
 
 /// Where numbers are due in the lines of a text.
-pub(crate) trait Numbers {
+pub trait Numbers {
     /// Returns from where to where the number at a place of a line may be, from 0; nothing where none is due.
     fn range_at(&self, words: &Words<'_>, place: usize) -> Option<Range>;
 }
 
 /// Returns a range.
-pub(crate) fn within(low: u128, high: u128) -> Option<Range> {
+pub fn within(low: u128, high: u128) -> Option<Range> {
     Some(Range { low, high })
 }
 
@@ -72,7 +74,7 @@ fn wrong_text(alloc: Global, wrong: Wrong) -> Option<String> {
 }
 
 /// Returns the note on the first number of a line that may not stand there.
-pub(crate) fn number_note<N: Numbers>(
+pub fn number_note<N: Numbers>(
     alloc: Global,
     name: &str,
     numbers: &N,

@@ -7,15 +7,16 @@ const MOST_SHOWN: usize = 40;
 
 /// The words of a line.
 #[derive(Drop)]
-pub(crate) struct Words<'a> {
+pub struct Words<'a> {
     /// The line, from 1.
-    pub(crate) number: u32,
-    pub(crate) list: Vec<&'a [u8]>,
+    pub number: u32,
+    /// Its words, before its comment.
+    pub list: Vec<&'a [u8]>,
 }
 
 impl<'a> Words<'a> {
     /// Returns the word at a place, from 0; no bytes past the last.
-    pub(crate) fn word(&self, place: usize) -> &'a [u8] {
+    pub fn word(&self, place: usize) -> &'a [u8] {
         match self.list.get(place) {
             Some(word) => word,
             None => &[],
@@ -23,7 +24,7 @@ impl<'a> Words<'a> {
     }
 
     /// Returns how many words there are.
-    pub(crate) fn count(&self) -> usize {
+    pub fn count(&self) -> usize {
         self.list.len()
     }
 }
@@ -34,7 +35,7 @@ fn is_shown(byte: u8) -> bool {
 }
 
 /// Returns a word as a note shows it: itself, or how long it is, or that it is not all printable ASCII.
-pub(crate) fn shown(alloc: Global, word: &[u8]) -> Option<String> {
+pub fn shown(alloc: Global, word: &[u8]) -> Option<String> {
     if MOST_SHOWN < word.len() {
         return format!(in alloc; "a word of {} bytes", word.len()).ok();
     }
@@ -45,17 +46,17 @@ pub(crate) fn shown(alloc: Global, word: &[u8]) -> Option<String> {
 }
 
 /// Returns the note that a line of a text says something.
-pub(crate) fn line_note(alloc: Global, name: &str, line: u32, what: &str) -> Option<String> {
+pub fn line_note(alloc: Global, name: &str, line: u32, what: &str) -> Option<String> {
     format!(in alloc; "{name}: line {line}: {what}").ok()
 }
 
 /// Returns the note that a whole text says something.
-pub(crate) fn text_note(alloc: Global, name: &str, what: &str) -> Option<String> {
+pub fn text_note(alloc: Global, name: &str, what: &str) -> Option<String> {
     format!(in alloc; "{name}: {what}").ok()
 }
 
 /// Returns the note on the word of a line at a place, from 0, that it is something.
-pub(crate) fn word_note(
+pub fn word_note(
     alloc: Global,
     name: &str,
     words: &Words<'_>,
@@ -69,12 +70,7 @@ pub(crate) fn word_note(
 }
 
 /// Returns the note that a line has another number of words than a form.
-pub(crate) fn count_note(
-    alloc: Global,
-    name: &str,
-    words: &Words<'_>,
-    form: &str,
-) -> Option<String> {
+pub fn count_note(alloc: Global, name: &str, words: &Words<'_>, form: &str) -> Option<String> {
     let number = words.number;
     let count = words.count();
     format!(in alloc; "{name}: line {number}: {count} words; the form is {form}").ok()

@@ -22,8 +22,8 @@ fn wrong_of(fault: RosterFault) -> Option<(u32, RosterWrong)> {
     }
 }
 
-// Returns what is noted of a roster text that is refused.
-fn fault_note(alloc: Global, instance: &Instance, text: &[u8]) -> Option<String>
+/// Returns what is noted of a roster text that is refused.
+pub fn fault_remark(alloc: Global, instance: &Instance, text: &[u8]) -> Option<String>
     requires { IsSoundInstance instance.now }
 {
     match read_roster(alloc, instance, text) {
@@ -36,7 +36,7 @@ fn fault_note(alloc: Global, instance: &Instance, text: &[u8]) -> Option<String>
 }
 
 /// Returns a note with another one on lines of its own behind it; after want of memory the first one.
-pub(crate) fn both(first: Option<String>, second: Option<String>) -> Option<String> {
+pub fn both(first: Option<String>, second: Option<String>) -> Option<String> {
     match (first, second) {
         (Some(first), Some(second)) => {
             let mut text = first;
@@ -63,7 +63,7 @@ pub(crate) fn roster_remark(
 {
     let comment = comment_note(alloc, text);
     match status {
-        5 => both(fault_note(alloc, instance, text), comment),
+        5 => both(fault_remark(alloc, instance, text), comment),
         _ => comment,
     }
 }
