@@ -11,7 +11,7 @@ use text_lines::read_natural;
 // Returns the shift of the number that a line says.
 fn numbered<'a>(words: &Words<'_>, shifts: &'a [Shift]) -> Option<&'a Shift> {
     let number = read_natural(words.word(1)).ok()?;
-    shifts.get(number.checked_sub(1)? as usize)
+    shifts.get(usize::try_from(number.checked_sub(1)?).ok()?)
 }
 
 // Returns the name of the group of a shift; nothing on a day without groups.
