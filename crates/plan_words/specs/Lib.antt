@@ -5,3 +5,4 @@ pub mod TimeWords
 pub mod NameWords
 pub mod Numbers
 pub mod Amounts
+pub mod ClockText

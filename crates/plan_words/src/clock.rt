@@ -9,7 +9,7 @@ use plan_meaning::{PlanDay, Time};
 pub(crate) const CLOCK_DAY: u32 = 1440;
 
 /// Returns the minute behind midnight at which the day begins.
-pub(crate) fn begin_minute(day: &PlanDay) -> u32
+pub fn begin_minute(day: &PlanDay) -> u32
     ensures value { result ≡ begin_minute day.now }
     ensures small { result ≤ 1439 }
 {
@@ -45,7 +45,7 @@ fn behind_begin(shown: u64) -> u64
 }
 
 /// Returns how many minutes behind the day's begin a time is, as the begin of something.
-pub(crate) fn begin_behind(day: &PlanDay, time: &Time) -> u64
+pub fn begin_behind(day: &PlanDay, time: &Time) -> u64
     ensures value { result ≡ begin_behind day.now time.now }
     ensures small { result ≤ 1440 + time.now.minute }
 {
@@ -69,7 +69,7 @@ pub(crate) fn end_behind(day: &PlanDay, time: &Time) -> u64
 }
 
 /// Returns how many minutes the day has.
-pub(crate) fn day_length(day: &PlanDay) -> u32
+pub fn day_length(day: &PlanDay) -> u32
     requires { day.now.end.minute ≤ 1440 }
     ensures value { result ≡ day_length day.now }
     ensures small { result ≤ 2880 }

@@ -7,6 +7,7 @@
 
 mod amounts;
 mod clock;
+mod clock_text;
 mod day;
 mod digits;
 mod fault;
@@ -16,6 +17,8 @@ mod numbers;
 mod times;
 
 pub use amounts::{amount, cost, hour};
+pub use clock::{begin_behind, begin_minute, day_length};
+pub use clock_text::put_clock;
 pub use day::Day;
 pub use fault::{DayFault, WordFault};
 pub use lengths::length;

@@ -1,0 +1,7 @@
+use Rattle.plan_labels.proofs.LabelLemmas.{pause_more}
+use Rattle.plan_labels.proofs.codes.pause_lines.Goals as goal
+
+pub loop-code-preserved : goal.loop-code-preserved
+loop-code-preserved c =
+    pause_more c.args.codes.now c.loop-code.code-index c.code-item.result c.args.out.now c.loop-code.out c.pause_line.new.out
+    c.loop-code-test.true c.code-item.is c.loop-code.invariant c.in_ok-pause_line.ensures
