@@ -139,33 +139,33 @@ module _ (p : PeriodPlan) where
   behind_some false own rest h = h
 
   -- each name of duty lines has a rule
-  pub day_some : (free : Free) (ds : List PeriodDuty) → 1 ≤ length (rules_for p free (day ds))
-  day_some free ds = go (lines_leave p ds true true) (lines_leave p ds true false) (lines_leave p ds false true) (lines_leave p ds false false) refl refl refl refl
+  pub day_some : (free : Free) (tag : List ℕ) (ds : List PeriodDuty) → 1 ≤ length (rules_for p free (day tag ds))
+  day_some free tag ds = go (lines_leave p ds true true) (lines_leave p ds true false) (lines_leave p ds false true) (lines_leave p ds false false) refl refl refl refl
     where
-      early : (n : ℕ) → p.first_start ≡ n → p.first_start ≡ 0 → (IsTrue (lines_leave p ds true true)) ⊎ (IsTrue (lines_leave p ds true false)) → 1 ≤ length (early_days p n ds)
+      early : (n : ℕ) → p.first_start ≡ n → p.first_start ≡ 0 → (IsTrue (lines_leave p ds true true)) ⊎ (IsTrue (lines_leave p ds true false)) → 1 ≤ length (early_days p n tag ds)
       early (suc n) e z h = absurd (omega (arith, e, z))
-      early zero e z (inl h) = kept_some (leaves p ds true true) (plain 0 (named (duty ds) ∷ [])) (kept_rule (leaves p ds true false) (plain 0 (named (duty ds) ∷ named off ∷ [])))
+      early zero e z (inl h) = kept_some (leaves p ds true true) (plain 0 (named (duty tag ds) ∷ [])) (kept_rule (leaves p ds true false) (plain 0 (named (duty tag ds) ∷ named off ∷ [])))
           (first (lines_leave p ds true true) (not true && not true && none_left p ds) h)
-      early zero e z (inr h) = behind_some (leaves p ds true true) (plain 0 (named (duty ds) ∷ [])) (kept_rule (leaves p ds true false) (plain 0 (named (duty ds) ∷ named off ∷ [])))
-          (subst (λ (xs : List (NamedRule Kind)). 1 ≤ length xs) (append-nil (kept_rule (leaves p ds true false) (plain 0 (named (duty ds) ∷ named off ∷ []))))
-          (kept_some (leaves p ds true false) (plain 0 (named (duty ds) ∷ named off ∷ [])) [] (first (lines_leave p ds true false) (not true && not false && none_left p ds) h)))
+      early zero e z (inr h) = behind_some (leaves p ds true true) (plain 0 (named (duty tag ds) ∷ [])) (kept_rule (leaves p ds true false) (plain 0 (named (duty tag ds) ∷ named off ∷ [])))
+          (subst (λ (xs : List (NamedRule Kind)). 1 ≤ length xs) (append-nil (kept_rule (leaves p ds true false) (plain 0 (named (duty tag ds) ∷ named off ∷ []))))
+          (kept_some (leaves p ds true false) (plain 0 (named (duty tag ds) ∷ named off ∷ [])) [] (first (lines_leave p ds true false) (not true && not false && none_left p ds) h)))
 
-      last : (IsTrue (lines_leave p ds true true)) ⊎ (IsTrue (lines_leave p ds true false)) → p.first_start ≡ 0 → 1 ≤ length (rules_for p free (day ds))
-      last h z = behind_some (leaves p ds false true) (plain 0 (named (lead_kind p) ∷ named (duty ds) ∷ []))
-          (kept_rule (leaves p ds false false) (plain 0 (named (lead_kind p) ∷ named (duty ds) ∷ named off ∷ [])) ++ early_days p p.first_start ds)
-          (behind_some (leaves p ds false false) (plain 0 (named (lead_kind p) ∷ named (duty ds) ∷ named off ∷ [])) (early_days p p.first_start ds) (early p.first_start refl z h))
+      last : (IsTrue (lines_leave p ds true true)) ⊎ (IsTrue (lines_leave p ds true false)) → p.first_start ≡ 0 → 1 ≤ length (rules_for p free (day tag ds))
+      last h z = behind_some (leaves p ds false true) (plain 0 (named (lead_kind p) ∷ named (duty tag ds) ∷ []))
+          (kept_rule (leaves p ds false false) (plain 0 (named (lead_kind p) ∷ named (duty tag ds) ∷ named off ∷ [])) ++ early_days p p.first_start tag ds)
+          (behind_some (leaves p ds false false) (plain 0 (named (lead_kind p) ∷ named (duty tag ds) ∷ named off ∷ [])) (early_days p p.first_start tag ds) (early p.first_start refl z h))
 
-      middle : IsTrue (leaves p ds false false) → 1 ≤ length (rules_for p free (day ds))
-      middle h = behind_some (leaves p ds false true) (plain 0 (named (lead_kind p) ∷ named (duty ds) ∷ []))
-          (kept_rule (leaves p ds false false) (plain 0 (named (lead_kind p) ∷ named (duty ds) ∷ named off ∷ [])) ++ early_days p p.first_start ds)
-          (kept_some (leaves p ds false false) (plain 0 (named (lead_kind p) ∷ named (duty ds) ∷ named off ∷ [])) (early_days p p.first_start ds) h)
+      middle : IsTrue (leaves p ds false false) → 1 ≤ length (rules_for p free (day tag ds))
+      middle h = behind_some (leaves p ds false true) (plain 0 (named (lead_kind p) ∷ named (duty tag ds) ∷ []))
+          (kept_rule (leaves p ds false false) (plain 0 (named (lead_kind p) ∷ named (duty tag ds) ∷ named off ∷ [])) ++ early_days p p.first_start tag ds)
+          (kept_some (leaves p ds false false) (plain 0 (named (lead_kind p) ∷ named (duty tag ds) ∷ named off ∷ [])) (early_days p p.first_start tag ds) h)
 
       go : (a b c d : Bool) → lines_leave p ds true true ≡ a → lines_leave p ds true false ≡ b → lines_leave p ds false true ≡ c → lines_leave p ds false false ≡ d
-          → 1 ≤ length (rules_for p free (day ds))
+          → 1 ≤ length (rules_for p free (day tag ds))
       go true b c d ea eb ec ed = last (inl ea) (lines_early ds true ea)
       go false true c d ea eb ec ed = last (inr eb) (lines_early ds false eb)
-      go false false true d ea eb ec ed = kept_some (leaves p ds false true) (plain 0 (named (lead_kind p) ∷ named (duty ds) ∷ []))
-          (kept_rule (leaves p ds false false) (plain 0 (named (lead_kind p) ∷ named (duty ds) ∷ named off ∷ [])) ++ early_days p p.first_start ds)
+      go false false true d ea eb ec ed = kept_some (leaves p ds false true) (plain 0 (named (lead_kind p) ∷ named (duty tag ds) ∷ []))
+          (kept_rule (leaves p ds false false) (plain 0 (named (lead_kind p) ∷ named (duty tag ds) ∷ named off ∷ [])) ++ early_days p p.first_start tag ds)
           (first (lines_leave p ds false true) (not false && not true && none_left p ds) ec)
       go false false false true ea eb ec ed = middle (first (lines_leave p ds false false) (not false && not false && none_left p ds) ed)
       go false false false false ea eb ec ed =

@@ -7,12 +7,13 @@ use Rattle.model_rosters.specs.declared.grammar.Window.{Window}
 use Rattle.model_rosters.specs.Folds.{In, Each}
 use Rattle.plan_laws.specs.Named.{Symbol, coded, named, NamedRule, Fits, SideBySide, ByRule, Kept}
 use Rattle.plan_laws.specs.declared.period_plan.Activity.{Activity}
+use Rattle.plan_laws.specs.declared.period_plan.NamedLines.{NamedLines}
 use Rattle.plan_laws.specs.declared.period_plan.PeriodDuty.{PeriodDuty}
 use Rattle.plan_laws.specs.declared.period_plan.PeriodPart.{PeriodPart}
 use Rattle.plan_laws.specs.declared.period_plan.PeriodPlan.{PeriodPlan}
 use Rattle.plan_laws.specs.declared.period_plan.PeriodPart.TheVariants.{Pausing, Working}
 use Rattle.plan_laws.specs.PeriodShifts.{plus_of, letter_cost, word_cost, change_cost, Alone, IsAlone, Block, IsBlock, joined, Differ, AreBlocks, MayChange, MayBegin, IsRest, IsPart, AreParts, IsStart, IsLetter, IsLine}
-use Rattle.plan_laws.specs.Names.{Kind, at, run, block, free_one, any_list, open_list, from, other, work, rest, off, step, steps, lead, duty, day, start, dots, lead_rules, lead_of, lead_kind, no_letters, leaves, kept_rule, early_days, change_in, plain, copies, spells_of, others, kind_of, symbols_of, duty_rule, at_rule, from_rule, block_rule, longer_rules, block_rules, touch_rules, any_rules, open_rules, work_rules, whole, opened, numbers_from, length_rule, has_few, rest_rules, rest_kind, chosen, is_bound, Free, Loose, IsFreeBlock, IsSet, IsStretchSet, IsGoodPart, IsGoodDuty, rules_for, BlocksFrom, IsDutyOf, IsDayOf, Means, IsUsed, rank}
+use Rattle.plan_laws.specs.Names.{Kind, day_rule, at, run, block, free_one, any_list, open_list, from, other, work, rest, off, step, steps, lead, duty, day, start, dots, lead_rules, lead_of, lead_kind, no_letters, leaves, kept_rule, early_days, change_in, plain, copies, spells_of, others, kind_of, symbols_of, duty_rule, at_rule, from_rule, block_rule, longer_rules, block_rules, touch_rules, any_rules, open_rules, work_rules, whole, opened, numbers_from, length_rule, has_few, rest_rules, rest_kind, chosen, is_bound, Free, Loose, IsFreeBlock, IsSet, IsStretchSet, IsGoodPart, IsGoodDuty, rules_for, BlocksFrom, IsDutyOf, IsDayOf, Means, IsUsed, rank}
 use Rattle.plan_laws.proofs.SpellLemmas.{Tells, spells_tell, spells_hold, to_spell}
 use Rattle.plan_laws.proofs.Trees.{each_in}
 use Rattle.plan_laws.proofs.Sides.{in_map, as_one, as_two}
@@ -374,13 +375,13 @@ module _ (p : PeriodPlan) (free : Free) where
   some step i w c u m = omega (arith, m.1, u)
   some steps i w c u m = let more : suc m.1.0 * p.starts ≡ p.starts + m.1.0 * p.starts = omega arith in omega (arith, m.1.1, more, u)
   some lead i w c u m = m.1
-  some (duty ds) i w c u m = duty_some ds i w c u m
+  some (duty tag ds) i w c u m = duty_some ds i w c u m
   some (start dss) i w c u m =
-      let ds = each_in (λ (x : List PeriodDuty). Each (IsGoodDuty p free) x) m.0 dss u.1 m.1 in
+      let ds = each_in (λ (x : NamedLines). Each (IsGoodDuty p free) x.lines) m.0 dss u.1 m.1 in
       let d = m.2.0 in
-      let inner = duty_some m.0 (i + length d.before) d.work c ds d.duty in
+      let inner = duty_some m.0.lines (i + length d.before) d.work c ds d.duty in
       rw d.word (omega (arith, inner, length-append d.before (d.work ++ d.after), length-append d.work d.after))
-  some (day ds) i w c u m =
+  some (day tag ds) i w c u m =
       let d = m.0 in
       let inner = duty_some ds (i + length d.before) d.work c u.1 d.duty in
       rw d.word (omega (arith, inner, length-append d.before (d.work ++ d.after), length-append d.work d.after))
@@ -429,8 +430,8 @@ module _ (p : PeriodPlan) (free : Free) where
   parts_down r long (x ∷ xs) i w c u m =
       (m.0, m.1, m.2, m.3, m.4, m.5, part_some r long x i m.0 m.2 u.0 m.6, part_down r long x i m.0 m.2 u.0 m.6, parts_down r long xs (i + length m.0) m.1 m.3 u.1 m.7)
 
-  duty_down : (ds : List PeriodDuty) (i : ℕ) (w : List ℕ) (c : ℕ) → Each (IsGoodDuty p free) ds → Means p free (duty ds) i w c → Here p i w → ByRule (rules_for p free (duty ds)) (Means p free) i w c
-  duty_down ds i w c u m h =
+  duty_down : (tag : List ℕ) (ds : List PeriodDuty) (i : ℕ) (w : List ℕ) (c : ℕ) → Each (IsGoodDuty p free) ds → Means p free (duty tag ds) i w c → Here p i w → ByRule (rules_for p free (duty tag ds)) (Means p free) i w c
+  duty_down tag ds i w c u m h =
       let d = m.line in
       let line = each_in (IsGoodDuty p free) d ds u m.one in
       record {
@@ -568,67 +569,67 @@ module _ (p : PeriodPlan) (free : Free) where
       never : false ≡ true → ⊥
       never e = cc
 
-  day_down : (ds : List PeriodDuty) (i : ℕ) (w : List ℕ) (c : ℕ) → Each (IsGoodDuty p free) ds → Means p free (day ds) i w c → Here p i w → ByRule (rules_for p free (day ds)) (Means p free) i w c
-  day_down ds i w c u left_day h = let m = left_day.0 in
+  day_down : (tag : List ℕ) (ds : List PeriodDuty) (i : ℕ) (w : List ℕ) (c : ℕ) → Each (IsGoodDuty p free) ds → Means p free (day tag ds) i w c → Here p i w → ByRule (rules_for p free (day tag ds)) (Means p free) i w c
+  day_down tag ds i w c u left_day h = let m = left_day.0 in
       go m.before m.after m.word m.off_before m.off_after m.start m.duty (duty_some ds (i + length m.before) m.work c u m.duty) left_day.1
     where
       m : IsDayOf p ds i w c
       m = left_day.0
 
-      early : (own : NamedRule Kind) (q : ℕ) → 0 ≡ p.first_start + q * p.starts → In own (early_days p 0 ds) → In own (rules_for p free (day ds))
+      early : (own : NamedRule Kind) (q : ℕ) → 0 ≡ p.first_start + q * p.starts → In own (early_days p 0 tag ds) → In own (rules_for p free (day tag ds))
       early own q e at_early =
           let zero_first : 0 ≡ p.first_start = omega (arith, e) in
-          in_second own (kept_rule (leaves p ds false true) (plain 0 (named (lead_kind p) ∷ named (duty ds) ∷ [])))
-          (kept_rule (leaves p ds false false) (plain 0 (named (lead_kind p) ∷ named (duty ds) ∷ named off ∷ [])) ++ early_days p p.first_start ds)
-          (in_second own (kept_rule (leaves p ds false false) (plain 0 (named (lead_kind p) ∷ named (duty ds) ∷ named off ∷ []))) (early_days p p.first_start ds)
-          (subst (λ (n : ℕ). In own (early_days p n ds)) zero_first at_early))
+          in_second own (kept_rule (leaves p ds false true) (plain 0 (named (lead_kind p) ∷ named (duty tag ds) ∷ [])))
+          (kept_rule (leaves p ds false false) (plain 0 (named (lead_kind p) ∷ named (duty tag ds) ∷ named off ∷ [])) ++ early_days p p.first_start tag ds)
+          (in_second own (kept_rule (leaves p ds false false) (plain 0 (named (lead_kind p) ∷ named (duty tag ds) ∷ named off ∷ []))) (early_days p p.first_start tag ds)
+          (subst (λ (n : ℕ). In own (early_days p n tag ds)) zero_first at_early))
 
       go : (before after : List ℕ) → w ≡ before ++ (m.work ++ after) → Alone p.off before → Alone p.off after → IsStart p (length before) → IsDutyOf p ds (i + length before) m.work c → 0 < length m.work
-          → IsTrue (leaves p ds (no_letters before) (no_letters after)) → ByRule (rules_for p free (day ds)) (Means p free) i w c
+          → IsTrue (leaves p ds (no_letters before) (no_letters after)) → ByRule (rules_for p free (day tag ds)) (Means p free) i w c
       go [] [] e off_before off_after st d pos l =
           let word : w ≡ m.work = e ∙ append-nil m.work in
           record {
-            own = plain 0 (named (duty ds) ∷ []);
+            own = plain 0 (named (duty tag ds) ∷ []);
             paid = c;
-            one = early (plain 0 (named (duty ds) ∷ [])) st.0 st.1
-                (in_first (plain 0 (named (duty ds) ∷ [])) (kept_rule (leaves p ds true true) (plain 0 (named (duty ds) ∷ []))) (kept_rule (leaves p ds true false) (plain 0 (named (duty ds) ∷ named off ∷ [])))
-                (in_kept (plain 0 (named (duty ds) ∷ [])) (leaves p ds true true) l));
-            fits = plain_fits p 0 (named (duty ds) ∷ []) i w h;
-            parts = as_one (Means p free) (duty ds) i w c (rw word (moved ds (i + 0) i m.work c (omega arith) d)) h.some;
+            one = early (plain 0 (named (duty tag ds) ∷ [])) st.0 st.1
+                (in_first (plain 0 (named (duty tag ds) ∷ [])) (kept_rule (leaves p ds true true) (plain 0 (named (duty tag ds) ∷ []))) (kept_rule (leaves p ds true false) (plain 0 (named (duty tag ds) ∷ named off ∷ [])))
+                (in_kept (plain 0 (named (duty tag ds) ∷ [])) (leaves p ds true true) l));
+            fits = plain_fits p 0 (named (duty tag ds) ∷ []) i w h;
+            parts = as_one (Means p free) (duty tag ds) i w c (rw word (moved ds (i + 0) i m.work c (omega arith) d)) h.some;
             cost = omega arith;
           }
       go (x ∷ xs) [] e off_before off_after st d pos l =
           let word : w ≡ (x ∷ xs) ++ m.work = e ∙ ap (λ (v : List ℕ). (x ∷ xs) ++ v) (append-nil m.work) in
           record {
-            own = plain 0 (named (lead_kind p) ∷ named (duty ds) ∷ []);
+            own = plain 0 (named (lead_kind p) ∷ named (duty tag ds) ∷ []);
             paid = c;
-            one = in_first (plain 0 (named (lead_kind p) ∷ named (duty ds) ∷ [])) (kept_rule (leaves p ds false true) (plain 0 (named (lead_kind p) ∷ named (duty ds) ∷ [])))
-                (kept_rule (leaves p ds false false) (plain 0 (named (lead_kind p) ∷ named (duty ds) ∷ named off ∷ [])) ++ early_days p p.first_start ds)
-                (in_kept (plain 0 (named (lead_kind p) ∷ named (duty ds) ∷ [])) (leaves p ds false true) l);
-            fits = plain_fits p 0 (named (lead_kind p) ∷ named (duty ds) ∷ []) i w h;
-            parts = as_two (Means p free) (lead_kind p) (duty ds) i w (x ∷ xs) m.work c 0 c word (omega arith) (lead_back p.starts p.first_start refl i (x ∷ xs) off_before (omega arith) st) (omega arith) d pos;
+            one = in_first (plain 0 (named (lead_kind p) ∷ named (duty tag ds) ∷ [])) (kept_rule (leaves p ds false true) (plain 0 (named (lead_kind p) ∷ named (duty tag ds) ∷ [])))
+                (kept_rule (leaves p ds false false) (plain 0 (named (lead_kind p) ∷ named (duty tag ds) ∷ named off ∷ [])) ++ early_days p p.first_start tag ds)
+                (in_kept (plain 0 (named (lead_kind p) ∷ named (duty tag ds) ∷ [])) (leaves p ds false true) l);
+            fits = plain_fits p 0 (named (lead_kind p) ∷ named (duty tag ds) ∷ []) i w h;
+            parts = as_two (Means p free) (lead_kind p) (duty tag ds) i w (x ∷ xs) m.work c 0 c word (omega arith) (lead_back p.starts p.first_start refl i (x ∷ xs) off_before (omega arith) st) (omega arith) d pos;
             cost = omega arith;
           }
       go [] (y ∷ ys) e off_before off_after st d pos l =
           record {
-            own = plain 0 (named (duty ds) ∷ named off ∷ []);
+            own = plain 0 (named (duty tag ds) ∷ named off ∷ []);
             paid = c;
-            one = early (plain 0 (named (duty ds) ∷ named off ∷ [])) st.0 st.1
-                (in_second (plain 0 (named (duty ds) ∷ named off ∷ [])) (kept_rule (leaves p ds true true) (plain 0 (named (duty ds) ∷ []))) (kept_rule (leaves p ds true false) (plain 0 (named (duty ds) ∷ named off ∷ [])))
-                (in_kept (plain 0 (named (duty ds) ∷ named off ∷ [])) (leaves p ds true false) l));
-            fits = plain_fits p 0 (named (duty ds) ∷ named off ∷ []) i w h;
-            parts = as_two (Means p free) (duty ds) off i w m.work (y ∷ ys) c c 0 e (omega arith) (moved ds (i + 0) i m.work c (omega arith) d) pos (off_after, omega arith, refl) (omega arith);
+            one = early (plain 0 (named (duty tag ds) ∷ named off ∷ [])) st.0 st.1
+                (in_second (plain 0 (named (duty tag ds) ∷ named off ∷ [])) (kept_rule (leaves p ds true true) (plain 0 (named (duty tag ds) ∷ []))) (kept_rule (leaves p ds true false) (plain 0 (named (duty tag ds) ∷ named off ∷ [])))
+                (in_kept (plain 0 (named (duty tag ds) ∷ named off ∷ [])) (leaves p ds true false) l));
+            fits = plain_fits p 0 (named (duty tag ds) ∷ named off ∷ []) i w h;
+            parts = as_two (Means p free) (duty tag ds) off i w m.work (y ∷ ys) c c 0 e (omega arith) (moved ds (i + 0) i m.work c (omega arith) d) pos (off_after, omega arith, refl) (omega arith);
             cost = omega arith;
           }
       go (x ∷ xs) (y ∷ ys) e off_before off_after st d pos l =
           record {
-            own = plain 0 (named (lead_kind p) ∷ named (duty ds) ∷ named off ∷ []);
+            own = plain 0 (named (lead_kind p) ∷ named (duty tag ds) ∷ named off ∷ []);
             paid = c;
-            one = in_second (plain 0 (named (lead_kind p) ∷ named (duty ds) ∷ named off ∷ [])) (kept_rule (leaves p ds false true) (plain 0 (named (lead_kind p) ∷ named (duty ds) ∷ [])))
-                (kept_rule (leaves p ds false false) (plain 0 (named (lead_kind p) ∷ named (duty ds) ∷ named off ∷ [])) ++ early_days p p.first_start ds)
-                (in_first (plain 0 (named (lead_kind p) ∷ named (duty ds) ∷ named off ∷ [])) (kept_rule (leaves p ds false false) (plain 0 (named (lead_kind p) ∷ named (duty ds) ∷ named off ∷ []))) (early_days p p.first_start ds)
-                (in_kept (plain 0 (named (lead_kind p) ∷ named (duty ds) ∷ named off ∷ [])) (leaves p ds false false) l));
-            fits = plain_fits p 0 (named (lead_kind p) ∷ named (duty ds) ∷ named off ∷ []) i w h;
+            one = in_second (plain 0 (named (lead_kind p) ∷ named (duty tag ds) ∷ named off ∷ [])) (kept_rule (leaves p ds false true) (plain 0 (named (lead_kind p) ∷ named (duty tag ds) ∷ [])))
+                (kept_rule (leaves p ds false false) (plain 0 (named (lead_kind p) ∷ named (duty tag ds) ∷ named off ∷ [])) ++ early_days p p.first_start tag ds)
+                (in_first (plain 0 (named (lead_kind p) ∷ named (duty tag ds) ∷ named off ∷ [])) (kept_rule (leaves p ds false false) (plain 0 (named (lead_kind p) ∷ named (duty tag ds) ∷ named off ∷ []))) (early_days p p.first_start tag ds)
+                (in_kept (plain 0 (named (lead_kind p) ∷ named (duty tag ds) ∷ named off ∷ [])) (leaves p ds false false) l));
+            fits = plain_fits p 0 (named (lead_kind p) ∷ named (duty tag ds) ∷ named off ∷ []) i w h;
             parts = (
               x ∷ xs,
               m.work ++ (y ∷ ys),
@@ -638,7 +639,7 @@ module _ (p : PeriodPlan) (free : Free) where
               omega arith,
               omega arith,
               lead_back p.starts p.first_start refl i (x ∷ xs) off_before (omega arith) st,
-              as_two (Means p free) (duty ds) off (i + length (x ∷ xs)) (m.work ++ (y ∷ ys)) m.work (y ∷ ys) c c 0 refl (omega arith) d pos (off_after, omega arith, refl) (omega arith),
+              as_two (Means p free) (duty tag ds) off (i + length (x ∷ xs)) (m.work ++ (y ∷ ys)) m.work (y ∷ ys) c c 0 refl (omega arith) d pos (off_after, omega arith, refl) (omega arith),
             );
             cost = omega arith;
           }
@@ -655,17 +656,17 @@ module _ (p : PeriodPlan) (free : Free) where
   down (work r s long) i w c u m h = work_down p free r s long i w c u m h
   down (rest r a begin) i w c u m h = rest_down p free r a begin i w c m h (has_few a)
   down off i w c u m h = off_down w i c m h
-  down (duty ds) i w c u m h = duty_down ds i w c u m h
+  down (duty tag ds) i w c u m h = duty_down tag ds i w c u m h
   down step i w c u m h = step_down i w c m h
   down steps i w c u m h = steps_down i w c u m h
   down lead i w c u m h = lead_down p.first_start i w c refl u m h
-  down (day ds) i w c u m h = day_down ds i w c u.1 m h
+  down (day tag ds) i w c u m h = day_down tag ds i w c u.1 m h
   down (start dss) i w c u m h = record {
-    own = plain 0 (named (day m.0) ∷ []);
+    own = plain 0 (named (day m.0.name m.0.lines) ∷ []);
     paid = c;
-    one = in_map (λ (ds : List PeriodDuty). plain 0 (named (day ds) ∷ [])) m.0 dss m.1;
-    fits = plain_fits p 0 (named (day m.0) ∷ []) i w h;
-    parts = as_one (Means p free) (day m.0) i w c m.2 h.some;
+    one = in_map day_rule m.0 dss m.1;
+    fits = plain_fits p 0 (named (day m.0.name m.0.lines) ∷ []) i w h;
+    parts = as_one (Means p free) (day m.0.name m.0.lines) i w c m.2 h.some;
     cost = omega arith;
   }
 
@@ -684,8 +685,8 @@ module _ (p : PeriodPlan) (free : Free) where
   below step = omega arith
   below steps = omega arith
   below lead = omega arith
-  below (duty ds) = omega arith
-  below (day ds) = omega arith
+  below (duty tag ds) = omega arith
+  below (day tag ds) = omega arith
   below (start dss) = omega arith
 
   -- the rules of each name keep what it means

@@ -13,5 +13,6 @@ pub mod Unique
 pub mod Row
 pub mod Small
 pub mod Counts
+pub mod ItemByItem
 pub mod Turning
 pub mod WholeRules

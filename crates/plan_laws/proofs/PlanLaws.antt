@@ -9,6 +9,7 @@ use Rattle.model_rosters.specs.Shifts.{IsWordTree, IsPrice}
 use Rattle.model_rosters.specs.Arcs.{cost}
 use Rattle.plan_laws.specs.Named.{named, Numbers, Kept}
 use Rattle.plan_laws.specs.declared.period_plan.Activity.{Activity}
+use Rattle.plan_laws.specs.declared.period_plan.NamedLines.{NamedLines}
 use Rattle.plan_laws.specs.declared.period_plan.PeriodDuty.{PeriodDuty}
 use Rattle.plan_laws.specs.declared.period_plan.PeriodPlan.{PeriodPlan}
 use Rattle.plan_laws.specs.PeriodShifts.{IsStretch, IsShiftBy, IsPriceOf, IsLetter}
@@ -112,27 +113,27 @@ module _ (p : PeriodPlan) (free : Free) (num : Numbers Kind) (names : List Kind)
             le : {a b c : ℕ} → a ≤ b → b ≤ c → a ≤ c
             le h k = omega arith
 
-of_lines : (dss : List (List PeriodDuty)) (d : PeriodDuty) → In d (all_lines dss) → (ds : List PeriodDuty) × In ds dss × In d ds
+of_lines : (dss : List NamedLines) (d : PeriodDuty) → In d (all_lines dss) → (x : NamedLines) × In x dss × In d x.lines
 of_lines [] d at = absurd at
-of_lines (ds ∷ dss) d at = go (in_either d ds (all_lines dss) at) (of_lines dss d)
+of_lines (x ∷ dss) d at = go (in_either d x.lines (all_lines dss) at) (of_lines dss d)
   where
-    go : In d ds ⊎ In d (all_lines dss) → (In d (all_lines dss) → (es : List PeriodDuty) × In es dss × In d es) → (es : List PeriodDuty) × In es (ds ∷ dss) × In d es
-    go (inl l) ih = (ds, inl refl, l)
+    go : In d x.lines ⊎ In d (all_lines dss) → (In d (all_lines dss) → (y : NamedLines) × In y dss × In d y.lines) → (y : NamedLines) × In y (x ∷ dss) × In d y.lines
+    go (inl l) ih = (x, inl refl, l)
     go (inr l) ih = let r = ih l in (r.0, inr r.1, r.2)
 
-pub to_lines : (dss : List (List PeriodDuty)) (ds : List PeriodDuty) (d : PeriodDuty) → In ds dss → In d ds → In d (all_lines dss)
-to_lines [] ds d at one = absurd at
-to_lines (es ∷ dss) ds d (inl e) one = in_first d es (all_lines dss) (subst (λ (x : List PeriodDuty). In d x) e one)
-to_lines (es ∷ dss) ds d (inr at) one = in_second d es (all_lines dss) (to_lines dss ds d at one)
+pub to_lines : (dss : List NamedLines) (x : NamedLines) (d : PeriodDuty) → In x dss → In d x.lines → In d (all_lines dss)
+to_lines [] x d at one = absurd at
+to_lines (y ∷ dss) x d (inl e) one = in_first d y.lines (all_lines dss) (subst (λ (z : NamedLines). In d z.lines) e one)
+to_lines (y ∷ dss) x d (inr at) one = in_second d y.lines (all_lines dss) (to_lines dss x d at one)
 
-one_day : (p : PeriodPlan) (free : Free) → 1 ≤ p.starts → (ds : List PeriodDuty) (w : List ℕ) (c : ℕ) → length w ≡ p.periods → Means p free (day ds) 1 w c ↔ IsDayOf p ds 1 w c
-one_day p free some ds w c e = ((λ m. m.0), (λ m. (m, shift_leaves p ds w c some e m)))
+one_day : (p : PeriodPlan) (free : Free) → 1 ≤ p.starts → (tag : List ℕ) (ds : List PeriodDuty) (w : List ℕ) (c : ℕ) → length w ≡ p.periods → Means p free (day tag ds) 1 w c ↔ IsDayOf p ds 1 w c
+one_day p free some tag ds w c e = ((λ m. m.0), (λ m. (m, shift_leaves p ds w c some e m)))
 
-start_days : (p : PeriodPlan) (free : Free) → 1 ≤ p.starts → (dss : List (List PeriodDuty)) (w : List ℕ) (c : ℕ) → length w ≡ p.periods → Means p free (start dss) 1 w c ↔ IsDayOf p (all_lines dss) 1 w c
+start_days : (p : PeriodPlan) (free : Free) → 1 ≤ p.starts → (dss : List NamedLines) (w : List ℕ) (c : ℕ) → length w ≡ p.periods → Means p free (start dss) 1 w c ↔ IsDayOf p (all_lines dss) 1 w c
 start_days p free some dss w c e = ((λ m. to m.0 m.1 m.2.0), back)
   where
-    to : (ds : List PeriodDuty) → In ds dss → IsDayOf p ds 1 w c → IsDayOf p (all_lines dss) 1 w c
-    to ds at d = record {
+    to : (x : NamedLines) → In x dss → IsDayOf p x.lines 1 w c → IsDayOf p (all_lines dss) 1 w c
+    to x at d = record {
       before = d.before;
       work = d.work;
       after = d.after;
@@ -140,13 +141,13 @@ start_days p free some dss w c e = ((λ m. to m.0 m.1 m.2.0), back)
       off_before = d.off_before;
       off_after = d.off_after;
       start = d.start;
-      duty = record { line = d.duty.line; one = to_lines dss ds d.duty.line at d.duty.one; duty = d.duty.duty };
+      duty = record { line = d.duty.line; one = to_lines dss x d.duty.line at d.duty.one; duty = d.duty.duty };
     }
 
     back : IsDayOf p (all_lines dss) 1 w c → Means p free (start dss) 1 w c
     back d =
         let l = of_lines dss d.duty.line d.duty.one in
-        let m : IsDayOf p l.0 1 w c = record {
+        let m : IsDayOf p l.0.lines 1 w c = record {
           before = d.before;
           work = d.work;
           after = d.after;
@@ -156,11 +157,11 @@ start_days p free some dss w c e = ((λ m. to m.0 m.1 m.2.0), back)
           start = d.start;
           duty = record { line = d.duty.line; one = l.2; duty = d.duty.duty };
         } in
-        (l.0, l.1, (m, shift_leaves p l.0 w c some e m))
+        (l.0, l.1, (m, shift_leaves p l.0.lines w c some e m))
 
 pub plan_law : PlanLaw
 plan_law = λ p free num names g written. (
   stretch_law p free num names g written,
-  (λ some ds at lines. day_law p free num names g written (day ds) ds (at, (some, lines)) (one_day p free some ds)),
+  (λ some tag ds at lines. day_law p free num names g written (day tag ds) ds (at, (some, lines)) (one_day p free some tag ds)),
   (λ some dss at lines. day_law p free num names g written (start dss) (all_lines dss) (at, (some, lines)) (start_days p free some dss)),
 )

@@ -9,7 +9,7 @@ use Rattle.plan_laws.specs.declared.period_plan.PeriodDuty.{PeriodDuty}
 use Rattle.plan_laws.specs.declared.period_plan.PeriodPart.{PeriodPart}
 use Rattle.plan_laws.specs.declared.period_plan.PeriodPlan.{PeriodPlan}
 use Rattle.plan_laws.specs.PeriodShifts.{IsLine}
-use Rattle.plan_laws.specs.Names.{Kind, at, run, block, free_one, any_list, open_list, from, other, work, rest, off, step, steps, lead, duty, day, start, plain, copies, dots, lead_kind, lead_rules, early_days, leaves, kept_rule, others, chosen, is_bound, Free, symbols_of, duty_rule, at_rule, spells_of, from_rule, block_rule, open_rules, any_rules, longer_rules, block_rules, numbers_from, length_rule, has_few, rest_rules, work_rules, change_in, rules_for, IsGoodDuty, IsUsed}
+use Rattle.plan_laws.specs.Names.{Kind, day_rule, at, run, block, free_one, any_list, open_list, from, other, work, rest, off, step, steps, lead, duty, day, start, plain, copies, dots, lead_kind, lead_rules, early_days, leaves, kept_rule, others, chosen, is_bound, Free, symbols_of, duty_rule, at_rule, spells_of, from_rule, block_rule, open_rules, any_rules, longer_rules, block_rules, numbers_from, length_rule, has_few, rest_rules, work_rules, change_in, rules_for, IsGoodDuty, IsUsed}
 use Rattle.plan_laws.proofs.Trees.{each_in}
 use Rattle.plan_laws.proofs.Sides.{map_each, all_each}
 use Rattle.plan_laws.proofs.Words.{each_side, in_numbers}
@@ -88,10 +88,10 @@ module _ (p : PeriodPlan) (free : Free) (starts : p.starts ≤ 8) (first : p.fir
       let more = length-append (dots p (suc n)) (named steps ∷ []) in
       ((omega (arith, long), omega (arith, long, h)), ((omega (arith, long, more), omega (arith, long, more, h)), tt))
 
-  early_short : (ds : List PeriodDuty) (n : ℕ) → Each Short (early_days p n ds)
-  early_short ds (suc n) = tt
-  early_short ds zero = each_side Short (kept_rule (leaves p ds true true) (plain 0 (named (duty ds) ∷ []))) (kept_rule (leaves p ds true false) (plain 0 (named (duty ds) ∷ named off ∷ [])))
-      (kept_short (leaves p ds true true) (plain 0 (named (duty ds) ∷ [])) (omega arith, omega arith)) (kept_short (leaves p ds true false) (plain 0 (named (duty ds) ∷ named off ∷ [])) (omega arith, omega arith))
+  early_short : (tag : List ℕ) (ds : List PeriodDuty) (n : ℕ) → Each Short (early_days p n tag ds)
+  early_short tag ds (suc n) = tt
+  early_short tag ds zero = each_side Short (kept_rule (leaves p ds true true) (plain 0 (named (duty tag ds) ∷ []))) (kept_rule (leaves p ds true false) (plain 0 (named (duty tag ds) ∷ named off ∷ [])))
+      (kept_short (leaves p ds true true) (plain 0 (named (duty tag ds) ∷ [])) (omega arith, omega arith)) (kept_short (leaves p ds true false) (plain 0 (named (duty tag ds) ∷ named off ∷ [])) (omega arith, omega arith))
 
   -- a duty has at most 8 parts
   abbrev Few : Kind → Type 0
@@ -109,8 +109,8 @@ module _ (p : PeriodPlan) (free : Free) (starts : p.starts ≤ 8) (first : p.fir
   Few step = Unit {0}
   Few steps = Unit {0}
   Few lead = Unit {0}
-  Few (duty ds) = Each (λ (d : PeriodDuty). length d.parts ≤ 8) ds
-  Few (day ds) = Unit {0}
+  Few (duty tag ds) = Each (λ (d : PeriodDuty). length d.parts ≤ 8) ds
+  Few (day tag ds) = Unit {0}
   Few (start dss) = Unit {0}
 
   pub short_rules : (k : Kind) → IsUsed p free k → Few k → Each Short (rules_for p free k)
@@ -128,10 +128,10 @@ module _ (p : PeriodPlan) (free : Free) (starts : p.starts ≤ 8) (first : p.fir
   short_rules step u f = let long = dots_long p.starts in ((omega (arith, long, u), omega (arith, long, starts)), tt)
   short_rules steps u f = ((omega arith, omega arith), ((omega arith, omega arith), tt))
   short_rules lead u f = lead_short p.first_start first
-  short_rules (duty ds) u f = duty_short ds u f
-  short_rules (day ds) u f = each_side Short (kept_rule (leaves p ds false true) (plain 0 (named (lead_kind p) ∷ named (duty ds) ∷ [])))
-      (kept_rule (leaves p ds false false) (plain 0 (named (lead_kind p) ∷ named (duty ds) ∷ named off ∷ [])) ++ early_days p p.first_start ds)
-      (kept_short (leaves p ds false true) (plain 0 (named (lead_kind p) ∷ named (duty ds) ∷ [])) (omega arith, omega arith))
-      (each_side Short (kept_rule (leaves p ds false false) (plain 0 (named (lead_kind p) ∷ named (duty ds) ∷ named off ∷ []))) (early_days p p.first_start ds)
-      (kept_short (leaves p ds false false) (plain 0 (named (lead_kind p) ∷ named (duty ds) ∷ named off ∷ [])) (omega arith, omega arith)) (early_short ds p.first_start))
-  short_rules (start dss) u f = map_each Short (λ (ds : List PeriodDuty). plain 0 (named (day ds) ∷ [])) dss (all_each _ dss (λ ds at_dss. (omega arith, omega arith)))
+  short_rules (duty tag ds) u f = duty_short ds u f
+  short_rules (day tag ds) u f = each_side Short (kept_rule (leaves p ds false true) (plain 0 (named (lead_kind p) ∷ named (duty tag ds) ∷ [])))
+      (kept_rule (leaves p ds false false) (plain 0 (named (lead_kind p) ∷ named (duty tag ds) ∷ named off ∷ [])) ++ early_days p p.first_start tag ds)
+      (kept_short (leaves p ds false true) (plain 0 (named (lead_kind p) ∷ named (duty tag ds) ∷ [])) (omega arith, omega arith))
+      (each_side Short (kept_rule (leaves p ds false false) (plain 0 (named (lead_kind p) ∷ named (duty tag ds) ∷ named off ∷ []))) (early_days p p.first_start tag ds)
+      (kept_short (leaves p ds false false) (plain 0 (named (lead_kind p) ∷ named (duty tag ds) ∷ named off ∷ [])) (omega arith, omega arith)) (early_short tag ds p.first_start))
+  short_rules (start dss) u f = map_each Short day_rule dss (all_each _ dss (λ x at_dss. (omega arith, omega arith)))

@@ -56,7 +56,7 @@ small_written = record {
   };
 }
   where
-    duty_in : In (duty lines) names
+    duty_in : In (duty [] lines) names
     duty_in = inr (inl refl)
 
     off_in : In off names
@@ -125,5 +125,5 @@ pub are_met : AreMet
 are_met = record { written = small_written; lines_good = good_lines }
 
 -- the shifts and prices of the grammar's day are those of the plan
-pub small_law : DayLaw small numbers grammar (day lines) lines
-small_law = (plan_law small bound numbers names grammar small_written).1 (omega arith) lines (inl refl) good_lines
+pub small_law : DayLaw small numbers grammar (day [] lines) lines
+small_law = (plan_law small bound numbers names grammar small_written).1 (omega arith) [] lines (inl refl) good_lines

@@ -5,13 +5,14 @@ use Rattle.model_rosters.specs.declared.grammar.Window.{Window}
 use Rattle.model_rosters.specs.Folds.{In, Each}
 use Rattle.plan_laws.specs.Named.{Symbol, coded, named, NamedRule, SideBySide, EachSymbol, RuleKept}
 use Rattle.plan_laws.specs.declared.period_plan.Activity.{Activity}
+use Rattle.plan_laws.specs.declared.period_plan.NamedLines.{NamedLines}
 use Rattle.plan_laws.specs.declared.period_plan.PeriodDuty.{PeriodDuty}
 use Rattle.plan_laws.specs.declared.period_plan.PeriodPart.{PeriodPart}
 use Rattle.plan_laws.specs.declared.period_plan.PeriodPlan.{PeriodPlan}
 use Rattle.plan_laws.specs.declared.period_plan.PeriodPart.TheVariants.{Pausing, Working}
 use Rattle.plan_laws.specs.PeriodShifts.{plus_of, letter_cost, word_cost, change_cost, Alone, IsAlone, joined, AreBlocks, MayChange, IsStretch, MayBegin, IsRest, IsPart, AreParts, IsLetter, IsLine}
 use Rattle.plan_laws.specs.PeriodShifts.{IsStart}
-use Rattle.plan_laws.specs.Names.{Kind, at, run, block, free_one, any_list, open_list, from, other, work, rest, off, step, steps, lead, duty, day, start, dots, lead_rules, lead_of, lead_kind, no_letters, leaves, kept_rule, early_days, change_in, plain, copies, spells_of, others, kind_of, symbols_of, duty_rule, at_rule, from_rule, block_rule, longer_rules, block_rules, touch_rules, any_rules, open_rules, work_rules, opened, numbers_from, length_rule, has_few, rest_rules, rest_kind, chosen, is_bound, Free, IsSet, IsStretchSet, IsGoodPart, IsGoodDuty, rules_for, BlocksFrom, IsDutyOf, Means, IsUsed, rank}
+use Rattle.plan_laws.specs.Names.{Kind, day_rule, at, run, block, free_one, any_list, open_list, from, other, work, rest, off, step, steps, lead, duty, day, start, dots, lead_rules, lead_of, lead_kind, no_letters, leaves, kept_rule, early_days, change_in, plain, copies, spells_of, others, kind_of, symbols_of, duty_rule, at_rule, from_rule, block_rule, longer_rules, block_rules, touch_rules, any_rules, open_rules, work_rules, opened, numbers_from, length_rule, has_few, rest_rules, rest_kind, chosen, is_bound, Free, IsSet, IsStretchSet, IsGoodPart, IsGoodDuty, rules_for, BlocksFrom, IsDutyOf, Means, IsUsed, rank}
 use Rattle.plan_laws.specs.Spells.{Spell}
 use Rattle.plan_laws.proofs.SpellLemmas.{Tells, spells_tell, in_spell}
 use Rattle.plan_laws.proofs.Trees.{each_in}
@@ -418,10 +419,10 @@ module _ (p : PeriodPlan) (free : Free) where
       go (Some window) one = omega arith
   parts_low r long (x ∷ y ∷ xs) = omega arith
 
-  duty_up : (ds : List PeriodDuty) → Each (IsGoodDuty p free) ds → Each (Keeps p free (duty ds)) (rules_for p free (duty ds))
-  duty_up ds lines = map_each (Keeps p free (duty ds)) (duty_rule p) ds (all_each _ ds (λ d one. each d one))
+  duty_up : (tag : List ℕ) (ds : List PeriodDuty) → Each (IsGoodDuty p free) ds → Each (Keeps p free (duty tag ds)) (rules_for p free (duty tag ds))
+  duty_up tag ds lines = map_each (Keeps p free (duty tag ds)) (duty_rule p) ds (all_each _ ds (λ d one. each d one))
     where
-      each : (d : PeriodDuty) → In d ds → Keeps p free (duty ds) (duty_rule p d)
+      each : (d : PeriodDuty) → In d ds → Keeps p free (duty tag ds) (duty_rule p d)
       each d one = record {
         closed = parts_used d.plus d.stretch d.parts (each_in (IsGoodDuty p free) d ds lines one).parts;
         up = λ i w c within fits m. (
@@ -573,21 +574,21 @@ module _ (p : PeriodPlan) (free : Free) where
   kept_up k own true h = (h refl, tt)
   kept_up k own false h = tt
 
-  early_up : (ds : List PeriodDuty) → Each (IsGoodDuty p free) ds → (n : ℕ) → p.first_start ≡ n → Each (Keeps p free (day ds)) (early_days p n ds)
-  early_up ds lines (suc n) e = tt
-  early_up ds lines zero e = each_side (Keeps p free (day ds)) (kept_rule (leaves p ds true true) whole_day) (kept_rule (leaves p ds true false) before_off)
-      (kept_up (day ds) whole_day (leaves p ds true true) one) (kept_up (day ds) before_off (leaves p ds true false) two)
+  early_up : (tag : List ℕ) (ds : List PeriodDuty) → Each (IsGoodDuty p free) ds → (n : ℕ) → p.first_start ≡ n → Each (Keeps p free (day tag ds)) (early_days p n tag ds)
+  early_up tag ds lines (suc n) e = tt
+  early_up tag ds lines zero e = each_side (Keeps p free (day tag ds)) (kept_rule (leaves p ds true true) whole_day) (kept_rule (leaves p ds true false) before_off)
+      (kept_up (day tag ds) whole_day (leaves p ds true true) one) (kept_up (day tag ds) before_off (leaves p ds true false) two)
     where
       whole_day : NamedRule Kind
-      whole_day = plain 0 (named (duty ds) ∷ [])
+      whole_day = plain 0 (named (duty tag ds) ∷ [])
 
       before_off : NamedRule Kind
-      before_off = plain 0 (named (duty ds) ∷ named off ∷ [])
+      before_off = plain 0 (named (duty tag ds) ∷ named off ∷ [])
 
-      one : IsTrue (leaves p ds true true) → Keeps p free (day ds) (plain 0 (named (duty ds) ∷ []))
+      one : IsTrue (leaves p ds true true) → Keeps p free (day tag ds) (plain 0 (named (duty tag ds) ∷ []))
       one l = record {
         closed = (lines, tt);
-        up = λ i w c within fits m. let r = one_part (Means p free) (duty ds) i w c m in (
+        up = λ i w c within fits m. let r = one_part (Means p free) (duty tag ds) i w c m in (
           c,
           (
             record {
@@ -604,13 +605,13 @@ module _ (p : PeriodPlan) (free : Free) where
           ),
           omega arith,
         );
-        lower = low 8 (named (duty ds) ∷ []) (omega arith);
+        lower = low 8 (named (duty tag ds) ∷ []) (omega arith);
       }
 
-      two : IsTrue (leaves p ds true false) → Keeps p free (day ds) (plain 0 (named (duty ds) ∷ named off ∷ []))
+      two : IsTrue (leaves p ds true false) → Keeps p free (day tag ds) (plain 0 (named (duty tag ds) ∷ named off ∷ []))
       two l = record {
         closed = (lines, (tt, tt));
-        up = λ i w c within fits m. let t = two_parts (Means p free) (duty ds) off i w c m in (
+        up = λ i w c within fits m. let t = two_parts (Means p free) (duty tag ds) off i w c m in (
           c,
           (
             record {
@@ -627,26 +628,26 @@ module _ (p : PeriodPlan) (free : Free) where
           ),
           omega arith,
         );
-        lower = low 8 (named (duty ds) ∷ named off ∷ []) (omega arith);
+        lower = low 8 (named (duty tag ds) ∷ named off ∷ []) (omega arith);
       }
 
-  day_up : (ds : List PeriodDuty) → 1 ≤ p.starts → Each (IsGoodDuty p free) ds → Each (Keeps p free (day ds)) (rules_for p free (day ds))
-  day_up ds h lines = each_side (Keeps p free (day ds)) (kept_rule (leaves p ds false true) behind_off)
-      (kept_rule (leaves p ds false false) between_off ++ early_days p p.first_start ds)
-      (kept_up (day ds) behind_off (leaves p ds false true) one)
-      (each_side (Keeps p free (day ds)) (kept_rule (leaves p ds false false) between_off) (early_days p p.first_start ds)
-      (kept_up (day ds) between_off (leaves p ds false false) two) (early_up ds lines p.first_start refl))
+  day_up : (tag : List ℕ) (ds : List PeriodDuty) → 1 ≤ p.starts → Each (IsGoodDuty p free) ds → Each (Keeps p free (day tag ds)) (rules_for p free (day tag ds))
+  day_up tag ds h lines = each_side (Keeps p free (day tag ds)) (kept_rule (leaves p ds false true) behind_off)
+      (kept_rule (leaves p ds false false) between_off ++ early_days p p.first_start tag ds)
+      (kept_up (day tag ds) behind_off (leaves p ds false true) one)
+      (each_side (Keeps p free (day tag ds)) (kept_rule (leaves p ds false false) between_off) (early_days p p.first_start tag ds)
+      (kept_up (day tag ds) between_off (leaves p ds false false) two) (early_up tag ds lines p.first_start refl))
     where
       behind_off : NamedRule Kind
-      behind_off = plain 0 (named (lead_kind p) ∷ named (duty ds) ∷ [])
+      behind_off = plain 0 (named (lead_kind p) ∷ named (duty tag ds) ∷ [])
 
       between_off : NamedRule Kind
-      between_off = plain 0 (named (lead_kind p) ∷ named (duty ds) ∷ named off ∷ [])
+      between_off = plain 0 (named (lead_kind p) ∷ named (duty tag ds) ∷ named off ∷ [])
 
-      one : IsTrue (leaves p ds false true) → Keeps p free (day ds) (plain 0 (named (lead_kind p) ∷ named (duty ds) ∷ []))
+      one : IsTrue (leaves p ds false true) → Keeps p free (day tag ds) (plain 0 (named (lead_kind p) ∷ named (duty tag ds) ∷ []))
       one l = record {
         closed = (lead_used p.starts p.first_start h, (lines, tt));
-        up = λ i w c within fits m. let t = two_parts (Means p free) (lead_kind p) (duty ds) i w c m in let led = lead_means p.starts p.first_start refl refl i t.left t.left_cost t.means_left in (
+        up = λ i w c within fits m. let t = two_parts (Means p free) (lead_kind p) (duty tag ds) i w c m in let led = lead_means p.starts p.first_start refl refl i t.left t.left_cost t.means_left in (
           c,
           (
             record {
@@ -663,13 +664,13 @@ module _ (p : PeriodPlan) (free : Free) where
           ),
           omega arith,
         );
-        lower = low 8 (named (lead_kind p) ∷ named (duty ds) ∷ []) (omega arith);
+        lower = low 8 (named (lead_kind p) ∷ named (duty tag ds) ∷ []) (omega arith);
       }
 
-      two : IsTrue (leaves p ds false false) → Keeps p free (day ds) (plain 0 (named (lead_kind p) ∷ named (duty ds) ∷ named off ∷ []))
+      two : IsTrue (leaves p ds false false) → Keeps p free (day tag ds) (plain 0 (named (lead_kind p) ∷ named (duty tag ds) ∷ named off ∷ []))
       two l = record {
         closed = (lead_used p.starts p.first_start h, (lines, (tt, tt)));
-        up = λ i w c within fits m. let t = two_parts (Means p free) (duty ds) off (i + length m.0) m.1 m.3 m.8 in let led = lead_means p.starts p.first_start refl refl i m.0 m.2 m.7 in (
+        up = λ i w c within fits m. let t = two_parts (Means p free) (duty tag ds) off (i + length m.0) m.1 m.3 m.8 in let led = lead_means p.starts p.first_start refl refl i m.0 m.2 m.7 in (
           c,
           (
             record {
@@ -686,7 +687,7 @@ module _ (p : PeriodPlan) (free : Free) where
           ),
           omega arith,
         );
-        lower = low 8 (named (lead_kind p) ∷ named (duty ds) ∷ named off ∷ []) (omega arith);
+        lower = low 8 (named (lead_kind p) ∷ named (duty tag ds) ∷ named off ∷ []) (omega arith);
       }
 
   pub up : (k : Kind) → IsUsed p free k → Each (RuleKept p.periods (IsLetter p) (IsUsed p free) rank (Means p free) k) (rules_for p free k)
@@ -701,7 +702,7 @@ module _ (p : PeriodPlan) (free : Free) where
   up (work r s long) u = work_up p free r s long u (change_in p s) (changing p free r s)
   up (rest r a begin) u = rest_up p free r a begin u (has_few a)
   up off u = off_up
-  up (duty ds) u = duty_up ds u
+  up (duty tag ds) u = duty_up tag ds u
   up step u = (
     record {
       closed = dots_used p.starts;
@@ -712,9 +713,9 @@ module _ (p : PeriodPlan) (free : Free) where
   )
   up steps u = steps_up u
   up lead u = lead_up u p.first_start refl
-  up (day ds) u = day_up ds u.0 u.1
-  up (start dss) u = map_each (Keeps p free (start dss)) (λ (ds : List PeriodDuty). plain 0 (named (day ds) ∷ [])) dss (all_each _ dss (λ ds at_dss. record {
-    closed = ((u.0, each_in (λ (x : List PeriodDuty). Each (IsGoodDuty p free) x) ds dss u.1 at_dss), tt);
-    up = λ i w c within fits m. (c, (ds, at_dss, one_part (Means p free) (day ds) i w c m), omega arith);
-    lower = low 9 (named (day ds) ∷ []) (omega arith);
+  up (day tag ds) u = day_up tag ds u.0 u.1
+  up (start dss) u = map_each (Keeps p free (start dss)) day_rule dss (all_each _ dss (λ x at_dss. record {
+    closed = ((u.0, each_in (λ (x : NamedLines). Each (IsGoodDuty p free) x.lines) x dss u.1 at_dss), tt);
+    up = λ i w c within fits m. (c, (x, at_dss, one_part (Means p free) (day x.name x.lines) i w c m), omega arith);
+    lower = low 9 (named (day x.name x.lines) ∷ []) (omega arith);
   }))

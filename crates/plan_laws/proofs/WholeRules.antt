@@ -14,6 +14,7 @@ use Rattle.plan_meaning.specs.Shifts as meaning
 use Rattle.plan_meaning.specs.Shifts.{stretch_of}
 use Rattle.plan_meaning.specs.Whole.{IsWholeCode, IsWholePart, IsWholeDuty, AreWholeStarts, IsFirstStart, IsWholePlan}
 use Rattle.plan_laws.specs.declared.period_plan.Activity.{Activity}
+use Rattle.plan_laws.specs.declared.period_plan.NamedLines.{NamedLines}
 use Rattle.plan_laws.specs.declared.period_plan.PeriodDuty.{PeriodDuty}
 use Rattle.plan_laws.specs.declared.period_plan.PeriodPlan.{PeriodPlan}
 use Rattle.plan_laws.specs.PeriodShifts.{IsLine, IsShiftBy, IsPriceOf}
@@ -144,12 +145,12 @@ module _ (p : Plan) (first : ℕ) (sound : IsWholePlan p) (starts_first : IsFirs
       let law = plan_law (turned p first) free num names g written in
       let starts = some_starts p.starts sound.starts starts_first in
       record {
-        duties = λ name ds at same. says num g (day ds) ds name same
-            (law.1 starts ds at (Each-in (IsGoodDuty (turned p first) free) ds (λ d one. good_line name d ((same d).0 one))));
+        duties = λ name tag ds at same. says num g (day tag ds) ds name same
+            (law.1 starts tag ds at (Each-in (IsGoodDuty (turned p first) free) ds (λ d one. good_line name d ((same d).0 one))));
         all = λ dss at same. says num g (start dss) (all_lines dss) None same
             (law.2 starts dss at
-            (Each-in (λ (ds : List PeriodDuty). Each (IsGoodDuty (turned p first) free) ds) dss
-            (λ ds one. Each-in (IsGoodDuty (turned p first) free) ds (λ d x. good_line None d ((same d).0 (to_lines dss ds d one x))))));
+            (Each-in (λ (x : NamedLines). Each (IsGoodDuty (turned p first) free) x.lines) dss
+            (λ x one. Each-in (IsGoodDuty (turned p first) free) x.lines (λ d at_x. good_line None d ((same d).0 (to_lines dss x d one at_x))))));
       }
 
 pub rules_law : RulesLaw

@@ -9,6 +9,7 @@ use Rattle.model_rosters.specs.Shifts.{IsShift, IsPrice}
 use Rattle.model_rosters.specs.Arcs.{cost}
 use Rattle.plan_laws.specs.Named.{Numbers, Written}
 use Rattle.plan_laws.specs.declared.period_plan.Activity.{Activity}
+use Rattle.plan_laws.specs.declared.period_plan.NamedLines.{NamedLines}
 use Rattle.plan_laws.specs.declared.period_plan.PeriodDuty.{PeriodDuty}
 use Rattle.plan_laws.specs.declared.period_plan.PeriodPlan.{PeriodPlan}
 use Rattle.plan_laws.specs.PeriodShifts.{IsStretch, IsShiftBy, IsPriceOf, IsLetter}
@@ -41,9 +42,9 @@ abbrev pub IsShiftOf : PeriodPlan → List PeriodDuty → List ℕ → Type 0
 IsShiftOf p ds w = (d : PeriodDuty) × (price : ℕ) × In d ds × IsShiftBy p d w price
 
 -- the lines of several names
-abbrev pub all_lines : List (List PeriodDuty) → List PeriodDuty
+abbrev pub all_lines : List NamedLines → List PeriodDuty
 all_lines [] = []
-all_lines (ds ∷ dss) = ds ++ all_lines dss
+all_lines (x ∷ xs) = x.lines ++ all_lines xs
 
 -- for a name of these duty lines, the words derived over the whole day are exactly their shifts, and
 -- the least cost of a tree is exactly the price
@@ -58,8 +59,8 @@ PlanLaw =
     → IsWritten p free num names g
     → ((r : ℕ) (s : List Activity) (long : Window) → In (work r s long) names
     → IsStretchSet p (free r s) s long.hi → StretchLaw p num g r s long)
-    × (1 ≤ p.starts → (ds : List PeriodDuty) → In (day ds) names → Each (IsGoodDuty p free) ds
-    → DayLaw p num g (day ds) ds)
-    × (1 ≤ p.starts → (dss : List (List PeriodDuty)) → In (start dss) names
-    → Each (λ (ds : List PeriodDuty). Each (IsGoodDuty p free) ds) dss
+    × (1 ≤ p.starts → (tag : List ℕ) (ds : List PeriodDuty) → In (day tag ds) names → Each (IsGoodDuty p free) ds
+    → DayLaw p num g (day tag ds) ds)
+    × (1 ≤ p.starts → (dss : List NamedLines) → In (start dss) names
+    → Each (λ (x : NamedLines). Each (IsGoodDuty p free) x.lines) dss
     → DayLaw p num g (start dss) (all_lines dss))

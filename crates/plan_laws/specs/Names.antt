@@ -5,6 +5,7 @@ use Rattle.model_rosters.specs.Folds.{Each, In}
 use Rattle.plan_laws.specs.Named.{Symbol, coded, named, NamedRule}
 use Rattle.plan_laws.specs.Spells.{Spell, spells}
 use Rattle.plan_laws.specs.declared.period_plan.Activity.{Activity}
+use Rattle.plan_laws.specs.declared.period_plan.NamedLines.{NamedLines}
 use Rattle.plan_laws.specs.declared.period_plan.PeriodDuty.{PeriodDuty}
 use Rattle.plan_laws.specs.declared.period_plan.PeriodPart.{PeriodPart}
 use Rattle.plan_laws.specs.declared.period_plan.PeriodPlan.{PeriodPlan}
@@ -14,7 +15,7 @@ use Rattle.plan_laws.specs.PeriodShifts.{plus_of, letter_cost, word_cost, change
 -- A letter; letters of one activity; a block; a block of a free activity; lists of blocks: any, one that
 -- begins with a free activity, with this one, or with another; a stretch; a rest: these for each plus of
 -- lines that use them, which stands first. Time off; time off from one start to the next, from a start to a
--- later one, and before a duty; a duty; a day; a day of any of some names.
+-- later one, and before a duty; a duty and a day of the lines of a duty name; a day of any of some lines.
 pub data Kind : Type 0 where
   at : ℕ → Activity → Kind
   run : ℕ → Activity → Kind
@@ -30,9 +31,9 @@ pub data Kind : Type 0 where
   step : Kind
   steps : Kind
   lead : Kind
-  duty : List PeriodDuty → Kind
-  day : List PeriodDuty → Kind
-  start : List (List PeriodDuty) → Kind
+  duty : List ℕ → List PeriodDuty → Kind
+  day : List ℕ → List PeriodDuty → Kind
+  start : List NamedLines → Kind
 
 -- a window that is left open: all lengths, or all periods
 abbrev pub whole : Window
@@ -118,11 +119,15 @@ kept_rule true own = own ∷ []
 kept_rule false own = []
 
 -- days that begin with a duty, where the first period is a start
-abbrev pub early_days : PeriodPlan → ℕ → List PeriodDuty → List (NamedRule Kind)
-early_days p zero ds =
-    kept_rule (leaves p ds true true) (plain 0 (named (duty ds) ∷ []))
-    ++ kept_rule (leaves p ds true false) (plain 0 (named (duty ds) ∷ named off ∷ []))
-early_days p (suc n) ds = []
+abbrev pub early_days : PeriodPlan → ℕ → List ℕ → List PeriodDuty → List (NamedRule Kind)
+early_days p zero tag ds =
+    kept_rule (leaves p ds true true) (plain 0 (named (duty tag ds) ∷ []))
+    ++ kept_rule (leaves p ds true false) (plain 0 (named (duty tag ds) ∷ named off ∷ []))
+early_days p (suc n) tag ds = []
+
+-- a day of these lines
+abbrev pub day_rule : NamedLines → NamedRule Kind
+day_rule x = plain 0 (named (day x.name x.lines) ∷ [])
 
 -- the activities of other codes
 abbrev pub others : Activity → List Activity → List Activity
@@ -265,15 +270,15 @@ rules_for p free (other r s a) = open_rules r s (chosen (free r s) s)
 rules_for p free (work r s long) = work_rules r (change_in p s) s long
 rules_for p free (rest r a begin) = rest_rules r (has_few a) a begin
 rules_for p free off = plain 0 (coded p.off ∷ []) ∷ plain 0 (coded p.off ∷ named off ∷ []) ∷ []
-rules_for p free (duty ds) = map (duty_rule p) ds
+rules_for p free (duty tag ds) = map (duty_rule p) ds
 rules_for p free step = plain 0 (dots p p.starts) ∷ []
 rules_for p free steps = plain 0 (named step ∷ []) ∷ plain 0 (named step ∷ named steps ∷ []) ∷ []
 rules_for p free lead = lead_rules p p.first_start
-rules_for p free (day ds) =
-    kept_rule (leaves p ds false true) (plain 0 (named (lead_kind p) ∷ named (duty ds) ∷ []))
+rules_for p free (day tag ds) =
+    kept_rule (leaves p ds false true) (plain 0 (named (lead_kind p) ∷ named (duty tag ds) ∷ []))
     ++ (kept_rule (leaves p ds false false)
-    (plain 0 (named (lead_kind p) ∷ named (duty ds) ∷ named off ∷ [])) ++ early_days p p.first_start ds)
-rules_for p free (start dss) = map (λ (ds : List PeriodDuty). plain 0 (named (day ds) ∷ [])) dss
+    (plain 0 (named (lead_kind p) ∷ named (duty tag ds) ∷ named off ∷ [])) ++ early_days p p.first_start tag ds)
+rules_for p free (start dss) = map day_rule dss
 
 -- neighbours have different codes, save behind a block of a free activity
 abbrev pub Loose : (Activity → Bool) → List Block → Type 0
@@ -339,9 +344,9 @@ Means p free off i w c = Alone p.off w × (1 ≤ length w) × (c ≡ 0)
 Means p free step i w c = Alone p.off w × (length w ≡ p.starts) × (c ≡ 0)
 Means p free steps i w c = Alone p.off w × ((q : ℕ) × (length w ≡ suc q * p.starts)) × (c ≡ 0)
 Means p free lead i w c = Alone p.off w × (1 ≤ length w) × IsStart p (length w) × (c ≡ 0)
-Means p free (duty ds) i w c = IsDutyOf p ds i w c
-Means p free (day ds) i w c = IsLeftDay p ds i w c
-Means p free (start dss) i w c = (ds : List PeriodDuty) × In ds dss × IsLeftDay p ds i w c
+Means p free (duty tag ds) i w c = IsDutyOf p ds i w c
+Means p free (day tag ds) i w c = IsLeftDay p ds i w c
+Means p free (start dss) i w c = (x : NamedLines) × In x dss × IsLeftDay p x.lines i w c
 
 -- Activities that a stretch may have: lines of the plan, of which a free one and a bound one have
 -- different codes.
@@ -379,9 +384,9 @@ IsUsed p free off = Unit {0}
 IsUsed p free step = 1 ≤ p.starts
 IsUsed p free steps = 1 ≤ p.starts
 IsUsed p free lead = 1 ≤ p.starts
-IsUsed p free (duty ds) = Each (IsGoodDuty p free) ds
-IsUsed p free (day ds) = (1 ≤ p.starts) × Each (IsGoodDuty p free) ds
-IsUsed p free (start dss) = (1 ≤ p.starts) × Each (λ (ds : List PeriodDuty). Each (IsGoodDuty p free) ds) dss
+IsUsed p free (duty tag ds) = Each (IsGoodDuty p free) ds
+IsUsed p free (day tag ds) = (1 ≤ p.starts) × Each (IsGoodDuty p free) ds
+IsUsed p free (start dss) = (1 ≤ p.starts) × Each (λ (x : NamedLines). Each (IsGoodDuty p free) x.lines) dss
 
 abbrev pub rank : Kind → ℕ
 rank (at r a) = 0
@@ -398,6 +403,6 @@ rank off = 0
 rank step = 0
 rank steps = 1
 rank lead = 2
-rank (duty ds) = 7
-rank (day ds) = 8
+rank (duty tag ds) = 7
+rank (day tag ds) = 8
 rank (start dss) = 9

@@ -12,6 +12,7 @@ use Rattle.plan_meaning.specs.Shifts as meaning
 use Rattle.plan_meaning.specs.Shifts.{stretch_of}
 use Rattle.plan_meaning.specs.Whole.{IsFirstStart, IsWholePlan}
 use Rattle.plan_laws.specs.declared.period_plan.Activity.{Activity}
+use Rattle.plan_laws.specs.declared.period_plan.NamedLines.{NamedLines}
 use Rattle.plan_laws.specs.declared.period_plan.PeriodDuty.{PeriodDuty}
 use Rattle.plan_laws.specs.Laws.{IsWritten, all_lines}
 use Rattle.plan_laws.specs.Named.{Numbers}
@@ -46,9 +47,9 @@ pub record SaysName (p : Plan) (g : Grammar) (x : ℕ) (name : Option (List ℕ)
 -- The grammar is written for the plan's numbers of periods: a name of duty lines says the duty name whose lines
 -- these are, and a name over several such names says all lines.
 pub record SaysPlan (p : Plan) (num : Numbers Kind) (names : List Kind) (g : Grammar) : Type 0 where
-  pub duties : (name : Option (List ℕ)) (ds : List PeriodDuty) → In (day ds) names
-      → AreSame ds (turned_lines p name) → SaysName p g (num.name (day ds)) name
-  pub all : (dss : List (List PeriodDuty)) → In (start dss) names
+  pub duties : (name : Option (List ℕ)) (tag : List ℕ) (ds : List PeriodDuty) → In (day tag ds) names
+      → AreSame ds (turned_lines p name) → SaysName p g (num.name (day tag ds)) name
+  pub all : (dss : List NamedLines) → In (start dss) names
       → AreSame (all_lines dss) (turned_lines p None) → SaysName p g (num.name (start dss)) None
 
 abbrev pub RulesLaw : Type 0

@@ -90,8 +90,8 @@ number_of off = 2
 number_of step = 18
 number_of steps = 19
 number_of lead = 20
-number_of (duty ds) = 1
-number_of (day ds) = 0
+number_of (duty tag ds) = 1
+number_of (day tag ds) = 0
 number_of (start dss) = 21
 
 -- no activity is free
@@ -102,7 +102,7 @@ abbrev pub numbers : Numbers Kind
 numbers = record { letter = λ c. cond (nat_eq c 97) 0 (cond (nat_eq c 98) 1 2); name = number_of }
 
 abbrev pub names : List Kind
-names = day lines ∷ duty lines ∷ off ∷ work 0 set (window 1 2) ∷ work 4 set (window 1 2) ∷ block 0 goods
+names = day [] lines ∷ duty [] lines ∷ off ∷ work 0 set (window 1 2) ∷ work 4 set (window 1 2) ∷ block 0 goods
     ∷ block 4 goods ∷ block 0 meal ∷ at 0 goods ∷ at 4 goods ∷ at 0 meal
     ∷ rest 0 meal (Some (window 2 3)) ∷ []
 
@@ -116,7 +116,7 @@ grammar = record {
   start = 0;
 }
 
--- the grammar is written for the plan, whose duty lines are good ones
+-- the grammar is written for the plan, whose duty [] lines are good ones
 pub record AreMet : Type 0 where
   pub written : IsWritten small bound numbers names grammar
   pub lines_good : Each (IsGoodDuty small bound) lines

@@ -9,4 +9,4 @@ mod laws;
 mod period_plan;
 
 pub use laws::{one_reading, plan_law, premises_are_met, rules_say_plan, same_meaning};
-pub use period_plan::{Activity, PeriodDuty, PeriodExtra, PeriodPart, PeriodPlan};
+pub use period_plan::{Activity, NamedLines, PeriodDuty, PeriodExtra, PeriodPart, PeriodPlan};

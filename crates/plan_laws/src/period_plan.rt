@@ -56,6 +56,15 @@ pub struct PeriodDuty {
     pub plus: u32,
 }
 
+/// The duty lines of a duty name, or all lines under no name.
+#[derive(Debug, PartialEq, Eq, Drop)]
+pub struct NamedLines {
+    /// The name; no byte where there is none.
+    pub name: List<u8>,
+    /// The lines in order.
+    pub lines: List<PeriodDuty>,
+}
+
 /// A plan in numbers of periods.
 #[derive(Debug, PartialEq, Eq, Drop)]
 pub struct PeriodPlan {

@@ -1,3 +1,2 @@
-pub mod ItemByItem
 pub mod FirstStarts
 pub mod Sets

@@ -4,7 +4,7 @@ use Rattle.std.proofs.lemmas.List.{drop_more}
 use Rattle.plan_laws.specs.declared.period_plan.Activity.{Activity}
 use Rattle.plan_laws.specs.Names.{chosen}
 use Rattle.plan_laws.specs.Turned.{coded}
-use Rattle.plan_periods.proofs.ItemByItem.{IsItemByItem}
+use Rattle.plan_laws.proofs.ItemByItem.{IsItemByItem}
 
 pub chosen_one : (t : Activity → Bool) → IsItemByItem (chosen t)
 chosen_one t = record { none = refl; more = λ x xs. go (t x) x xs }

@@ -1,6 +1,6 @@
 use Rattle.plan_laws.specs.Names.{chosen}
 use Rattle.plan_laws.specs.Turned.{has_code}
-use Rattle.plan_periods.proofs.ItemByItem.{step_read}
+use Rattle.plan_laws.proofs.ItemByItem.{step_read}
 use Rattle.plan_periods.proofs.Sets.{chosen_one}
 use Rattle.plan_periods.proofs.duties.set_of.Goals as goal
 

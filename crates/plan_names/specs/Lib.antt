@@ -1,0 +1,11 @@
+pub mod Views
+pub mod Same
+pub mod Shapes
+pub mod FreeCodes
+pub mod LetterCosts
+pub mod SpellRuns
+pub mod Rules
+pub mod DayRules
+pub mod StartNames
+pub mod Gathered
+pub mod WrittenFor
