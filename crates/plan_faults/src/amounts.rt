@@ -1,4 +1,4 @@
-//! Amounts.
+//! Amounts, as they are told.
 
 ghost use Rattle.std.specs.Prelude.{◌≡◌, ◌≤◌, ◌/◌, ◌%◌, ◌++◌, OnOk};
 ghost use Rattle.plan_words.specs.Amounts.{scale};

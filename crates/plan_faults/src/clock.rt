@@ -1,4 +1,4 @@
-//! Lengths and times.
+//! Lengths and times, as they are told.
 
 ghost use Rattle.std.specs.Prelude.{◌≡◌, ◌≤◌, ◌/◌, ◌%◌, ◌++◌, OnOk};
 ghost use Rattle.plan_faults.specs.Clocks.{begin_text, clock_text, end_text, next_day_text, two_text};

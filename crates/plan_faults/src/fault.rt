@@ -1,4 +1,4 @@
-//! The faults.
+//! Why a plan text is refused.
 
 use model_rosters::{List, Memory};
 use plan_meaning::Lengths;

@@ -1,4 +1,4 @@
-//! Fixed words.
+//! Words that are the same in each fault of a kind.
 
 ghost use Rattle.std.specs.Prelude.{◌≡◌, ◌++◌, OnOk};
 ghost use Rattle.plan_faults.specs.Phrases.{said};

@@ -16,6 +16,10 @@ use std::alloc::Global;
 const MOST_SYMBOLS: u8 = 8;
 
 /// Returns the rules of a run of letters.
+///
+/// # Errors
+///
+/// `Memory` where memory runs out.
 pub(crate) fn run_rules<'a>(
     alloc: Global,
     plus: u32,
@@ -77,6 +81,10 @@ fn short_block<'a>(
 
 /// Returns the rules of a block: its least letters and more of them, or a run where those are more than a
 /// rule can have.
+///
+/// # Errors
+///
+/// `Memory` where memory runs out.
 pub(crate) fn block_rules<'a>(
     alloc: Global,
     plus: u32,

@@ -124,6 +124,10 @@ fn line_rules<'a>(
 }
 
 /// Returns the rules of a duty: one for each line, those that are equal once.
+///
+/// # Errors
+///
+/// `Memory` where memory runs out.
 pub(crate) fn duty_rules<'a>(
     alloc: Global,
     plan: &PeriodPlan,
@@ -172,6 +176,10 @@ fn add_early<'a>(
 
 /// Returns the rules of a day: a duty with time off before it, behind it, on both sides or on none, as the
 /// lines leave it.
+///
+/// # Errors
+///
+/// `Memory` where memory runs out.
 pub(crate) fn day_rules<'a>(
     alloc: Global,
     plan: &PeriodPlan,
@@ -199,6 +207,10 @@ pub(crate) fn day_rules<'a>(
 }
 
 /// Returns the rules of a day of any of some duty names.
+///
+/// # Errors
+///
+/// `Memory` where memory runs out.
 pub(crate) fn any_day_rules<'a>(
     alloc: Global,
     staff: &'a [NamedLines],

@@ -121,6 +121,10 @@ fn add_free(
 }
 
 /// Returns the activities of a set that are free.
+///
+/// # Errors
+///
+/// `Memory` where memory runs out.
 pub(crate) fn free_ones(
     alloc: Global,
     plan: &PeriodPlan,
@@ -170,6 +174,10 @@ fn add_bound(
 }
 
 /// Returns those of some activities of a set that are bound.
+///
+/// # Errors
+///
+/// `Memory` where memory runs out.
 pub(crate) fn bound_ones(
     alloc: Global,
     plan: &PeriodPlan,
@@ -199,6 +207,10 @@ fn add_other(all: &mut List<Activity>, one: Activity, activity: &Activity) -> Re
 }
 
 /// Returns the activities of other codes.
+///
+/// # Errors
+///
+/// `Memory` where memory runs out.
 pub(crate) fn others(
     alloc: Global,
     one: Activity,

@@ -186,6 +186,10 @@ fn grown<'a>(
 }
 
 /// Returns the rules of a letter: one for each of the greatest runs of periods in which it costs the same.
+///
+/// # Errors
+///
+/// `Memory` where memory runs out, `TooDear` where a cost is beyond a rule's.
 pub(crate) fn letter_rules<'a>(
     alloc: Global,
     plan: &PeriodPlan,

@@ -59,6 +59,10 @@ fn add_lists<'a>(
 }
 
 /// Returns the rules of a block of a free activity.
+///
+/// # Errors
+///
+/// `Memory` where memory runs out.
 pub(crate) fn free_rules<'a>(
     alloc: Global,
     plan: &PeriodPlan,
@@ -76,6 +80,10 @@ pub(crate) fn free_rules<'a>(
 }
 
 /// Returns the rules of a block of a free activity with any list behind it or none.
+///
+/// # Errors
+///
+/// `Memory` where memory runs out.
 pub(crate) fn touch_rules<'a>(
     alloc: Global,
     plan: &PeriodPlan,
@@ -108,6 +116,10 @@ fn open_rules<'a>(
 }
 
 /// Returns the rules of a list of blocks.
+///
+/// # Errors
+///
+/// `Memory` where memory runs out.
 pub(crate) fn any_rules<'a>(
     alloc: Global,
     plan: &PeriodPlan,
@@ -131,6 +143,10 @@ pub(crate) fn any_rules<'a>(
 }
 
 /// Returns the rules of a list that begins with an activity.
+///
+/// # Errors
+///
+/// `Memory` where memory runs out.
 pub(crate) fn from_rules<'a>(
     alloc: Global,
     plan: &PeriodPlan,
@@ -148,6 +164,10 @@ pub(crate) fn from_rules<'a>(
 }
 
 /// Returns the rules of a list that begins with another activity.
+///
+/// # Errors
+///
+/// `Memory` where memory runs out.
 pub(crate) fn other_rules<'a>(
     alloc: Global,
     plan: &PeriodPlan,

@@ -13,6 +13,10 @@ use plan_laws::PeriodPlan;
 use std::alloc::Global;
 
 /// Returns the rules of time off.
+///
+/// # Errors
+///
+/// `Memory` where memory runs out.
 pub(crate) fn off_rules<'a>(alloc: Global, plan: &PeriodPlan) -> Result<List<NameRule<'a>>, Memory>
     ensures { IfOk result (λ rules. map rule_of rules ≡ off_rules plan.now) }
 {
@@ -23,6 +27,10 @@ pub(crate) fn off_rules<'a>(alloc: Global, plan: &PeriodPlan) -> Result<List<Nam
 }
 
 /// Returns the rule of time off from one start to the next.
+///
+/// # Errors
+///
+/// `Memory` where memory runs out.
 pub(crate) fn step_rules<'a>(alloc: Global, plan: &PeriodPlan) -> Result<List<NameRule<'a>>, Memory>
     ensures { IfOk result (λ rules. map rule_of rules ≡ step_rules plan.now) }
 {
@@ -31,6 +39,10 @@ pub(crate) fn step_rules<'a>(alloc: Global, plan: &PeriodPlan) -> Result<List<Na
 }
 
 /// Returns the rules of time off from a start to a later one.
+///
+/// # Errors
+///
+/// `Memory` where memory runs out.
 pub(crate) fn steps_rules<'a>(alloc: Global) -> Result<List<NameRule<'a>>, Memory>
     ensures { IfOk result (λ rules. map rule_of rules ≡ steps_rules) }
 {
@@ -41,6 +53,10 @@ pub(crate) fn steps_rules<'a>(alloc: Global) -> Result<List<NameRule<'a>>, Memor
 }
 
 /// Returns the rules of time off before a duty.
+///
+/// # Errors
+///
+/// `Memory` where memory runs out.
 pub(crate) fn lead_rules<'a>(alloc: Global, plan: &PeriodPlan) -> Result<List<NameRule<'a>>, Memory>
     ensures { IfOk result (λ rules. map rule_of rules ≡ lead_rules plan.now plan.now.first_start) }
 {

@@ -54,6 +54,10 @@ fn block_stretches<'a>(
 }
 
 /// Returns the rules of a stretch: a list of blocks, or one block where no activity changes.
+///
+/// # Errors
+///
+/// `Memory` where memory runs out.
 pub(crate) fn stretch_rules<'a>(
     alloc: Global,
     plan: &PeriodPlan,
@@ -131,6 +135,10 @@ fn length_rules<'a>(
 }
 
 /// Returns the rules of a rest: one for each of its lengths, or a block where these are many or long.
+///
+/// # Errors
+///
+/// `Memory` where memory runs out.
 pub(crate) fn rest_rules<'a>(
     alloc: Global,
     plus: u32,

@@ -28,6 +28,10 @@ pub(crate) fn plain(cost: u32, right: List<RuleSymbol<'_>>) -> NameRule<'_>
 }
 
 /// Appends a name to a right side.
+///
+/// # Errors
+///
+/// `Memory` where memory runs out.
 pub(crate) fn add_name<'a>(
     right: &mut List<RuleSymbol<'a>>,
     name: RuleName<'a>,
@@ -46,6 +50,10 @@ fn add_letter<'a>(right: &mut List<RuleSymbol<'a>>, code: u8) -> Result<(), Memo
 }
 
 /// Returns a right side of one letter.
+///
+/// # Errors
+///
+/// `Memory` where memory runs out.
 pub(crate) fn letter<'a>(alloc: Global, code: u8) -> Result<List<RuleSymbol<'a>>, Memory>
     ensures { IfOk result (λ right. map symbol_of right ≡ coded code ∷ []) }
 {
@@ -55,6 +63,10 @@ pub(crate) fn letter<'a>(alloc: Global, code: u8) -> Result<List<RuleSymbol<'a>>
 }
 
 /// Returns a right side of one name.
+///
+/// # Errors
+///
+/// `Memory` where memory runs out.
 pub(crate) fn one<'a>(alloc: Global, name: RuleName<'a>) -> Result<List<RuleSymbol<'a>>, Memory>
     ensures { IfOk result (λ right. map symbol_of right ≡ named (kind_of name.entry) ∷ []) }
 {
@@ -64,6 +76,10 @@ pub(crate) fn one<'a>(alloc: Global, name: RuleName<'a>) -> Result<List<RuleSymb
 }
 
 /// Returns a right side of two names.
+///
+/// # Errors
+///
+/// `Memory` where memory runs out.
 pub(crate) fn two<'a>(
     alloc: Global,
     first: RuleName<'a>,
@@ -78,6 +94,10 @@ pub(crate) fn two<'a>(
 }
 
 /// Returns a right side of three names.
+///
+/// # Errors
+///
+/// `Memory` where memory runs out.
 pub(crate) fn three<'a>(
     alloc: Global,
     first: RuleName<'a>,
@@ -93,6 +113,10 @@ pub(crate) fn three<'a>(
 }
 
 /// Returns a right side of a letter and a name.
+///
+/// # Errors
+///
+/// `Memory` where memory runs out.
 pub(crate) fn letter_and<'a>(
     alloc: Global,
     code: u8,
@@ -106,6 +130,10 @@ pub(crate) fn letter_and<'a>(
 }
 
 /// Returns a right side of a name, so often.
+///
+/// # Errors
+///
+/// `Memory` where memory runs out.
 pub(crate) fn copies<'a>(
     alloc: Global,
     count: u8,
@@ -121,6 +149,10 @@ pub(crate) fn copies<'a>(
 }
 
 /// Returns a right side of time off, so often.
+///
+/// # Errors
+///
+/// `Memory` where memory runs out.
 pub(crate) fn dots<'a>(
     alloc: Global,
     plan: &PeriodPlan,
@@ -136,6 +168,10 @@ pub(crate) fn dots<'a>(
 }
 
 /// Returns a right side of time off, so often, and a name.
+///
+/// # Errors
+///
+/// `Memory` where memory runs out.
 pub(crate) fn dots_and<'a>(
     alloc: Global,
     plan: &PeriodPlan,
@@ -151,6 +187,10 @@ pub(crate) fn dots_and<'a>(
 }
 
 /// Appends a rule.
+///
+/// # Errors
+///
+/// `Memory` where memory runs out.
 pub(crate) fn add_rule<'a>(rules: &mut List<NameRule<'a>>, rule: NameRule<'a>) -> Result<(), Memory>
     ensures { OnOk result (map rule_of rules.new ≡ map rule_of rules.old ++ rule_of rule.entry ∷ []) }
 {
@@ -158,6 +198,10 @@ pub(crate) fn add_rule<'a>(rules: &mut List<NameRule<'a>>, rule: NameRule<'a>) -
 }
 
 /// Returns the list of one rule.
+///
+/// # Errors
+///
+/// `Memory` where memory runs out.
 pub(crate) fn only<'a>(alloc: Global, rule: NameRule<'a>) -> Result<List<NameRule<'a>>, Memory>
     ensures { IfOk result (λ rules. map rule_of rules ≡ rule_of rule.entry ∷ []) }
 {

@@ -1,4 +1,4 @@
-//! Fault tests.
+//! Each fault of a plan text, told byte for byte.
 
 use model_rosters::{List, Memory};
 use plan_faults::{
