@@ -12,7 +12,7 @@ ghost use Rattle.page_command.specs.Requests.{request_of};
 use crate::events_note::note_events;
 use crate::request::{Drawing, Request};
 use command_answers::{
-    MOST_DEMAND, Question, demand_refusal, fetched, rules_refusal, say_answer_to, say_remarked,
+    MOST_DEMAND, Question, demand_refusal, fetched, rules_refusal, say_remarked, status_of_answer,
 };
 use command_shelf::Shelf;
 use model_rosters::{Grammar, Instance};
@@ -37,7 +37,9 @@ fn ask_third<S: Shelf, Q: Question>(
     match fetched(alloc, shelf, third, question.most()) {
         Ok(text) => {
             let text = text.as_slice();
-            let status = say_answer_to(shelf, text, question.answer(alloc, instance, text));
+            let said = question.answer(alloc, instance, text);
+            let remark = question.remark(alloc, instance, text, status_of_answer(&said));
+            let status = say_remarked(shelf, text, said, remark);
             note_events(alloc, shelf, instance, labels, text, status);
             status
         }

@@ -15,6 +15,7 @@ use crate::asking::ask_texts;
 use crate::judgement::judgement;
 use crate::limits::MOST_LABELS;
 use crate::refused::{line_answer, refused_labels};
+use crate::remarks::dated_remark;
 use command_answers::{Answer, MOST_DEMAND, MOST_PROOF, MOST_RULES, Question, fetched};
 use command_shelf::Shelf;
 use model_rosters::{Instance, Memory};
@@ -96,6 +97,17 @@ impl<'a> Question for Dated<'a> {
     // Says the calendar of the roster, or why there is none.
     fn answer(&self, alloc: Global, instance: &Instance, text: &[u8]) -> Result<Answer, Memory> {
         calendar_answer(alloc, instance, text, self)
+    }
+
+    // Tells what is wrong with a text that is refused.
+    fn remark(
+        &self,
+        alloc: Global,
+        instance: &Instance,
+        text: &[u8],
+        status: u8,
+    ) -> Option<String> {
+        dated_remark(alloc, instance, self.labels, text, status)
     }
 }
 

@@ -16,6 +16,7 @@ mod old;
 mod old_fault;
 mod program;
 mod refused;
+mod remarks;
 mod report;
 mod request;
 

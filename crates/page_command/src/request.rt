@@ -7,6 +7,7 @@ ghost use Rattle.page_command.specs.Check.{RequestAnswers, UnderAnswers, kind_by
 ghost use Rattle.page_command.specs.Requests.{request_of};
 
 use crate::check::{answer_under, answer_with};
+use crate::remarks::drawing_remark;
 use command_answers::{Answer, MOST_PROOF, Question};
 use model_rosters::{Instance, Memory};
 use page_labels::no_labels;
@@ -101,5 +102,17 @@ impl<'rules, 'labels, 'old, 'demand> Question for Drawing<'rules, 'labels, 'old,
     // Says what shows the roster, or why it is refused.
     fn answer(&self, alloc: Global, instance: &Instance, text: &[u8]) -> Result<Answer, Memory> {
         drawing_answer(alloc, instance, text, self)
+    }
+
+    // Tells what is wrong with a text that is refused.
+    fn remark(
+        &self,
+        alloc: Global,
+        instance: &Instance,
+        text: &[u8],
+        status: u8,
+    ) -> Option<String> {
+        let request = self.request;
+        drawing_remark(alloc, instance, request.labels, request.old, text, status)
     }
 }

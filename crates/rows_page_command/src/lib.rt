@@ -2,6 +2,8 @@
 #![tactic(auto)]
 
 #[cfg(test)]
+mod notes_tests;
+#[cfg(test)]
 mod page_tests;
 #[cfg(test)]
 mod refused_tests;

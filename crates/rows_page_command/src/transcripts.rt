@@ -1,6 +1,8 @@
 //! Transcripts of what the program says over shelves in memory: cases one after another, each begun by `~`. A
 //! case is a line of words, a line with the status, and what is said; with `..` behind the status it is
-//! lines, each of which stands somewhere in what is said.
+//! lines, each of which stands somewhere in what is said. Behind a line `!` stands what is noted. A case may
+//! hold a text of its own, which the shelf has under `own`: its lines, each behind a line feed or `; `, stand
+//! before `<`.
 
 use crate::texts::TEXTS;
 use command_shelf::MemoryShelf;
@@ -67,6 +69,22 @@ fn says_so(said: &[u8], line: &str, wanted: &str) -> bool {
     }
 }
 
+/// Whether what was noted is what a case tells, where it tells that.
+fn notes_so(noted: &[u8], wanted: Option<&str>) -> bool {
+    match wanted {
+        Some(wanted) => noted == wanted.as_bytes(),
+        None => true,
+    }
+}
+
+/// Returns what is said, and what is noted, where that is told.
+fn outcome_of(text: &str) -> (&str, Option<&str>) {
+    match text.split_once("!\n") {
+        Some((said, noted)) => (said, Some(noted)),
+        None => (text, None),
+    }
+}
+
 /// Whether a case has its answer on a shelf.
 ///
 /// # Errors
@@ -78,15 +96,39 @@ pub(crate) fn has_answer(
     text: &str,
 ) -> Result<bool, AllocError> {
     let (words, rest) = first_line(text);
-    let (line, wanted) = first_line(rest);
+    let (line, outcome) = first_line(rest);
+    let (said, noted) = outcome_of(outcome);
     let status = answer(alloc, shelf, words)?;
-    Ok(tells(line, status) && says_so(shelf.said(), line, wanted))
+    Ok(tells(line, status) && says_so(shelf.said(), line, said) && notes_so(shelf.notes(), noted))
 }
 
 /// Whether a case has its answer on a shelf of its own.
 fn has_answer_alone(alloc: Global, text: &str) -> Result<bool, Fail> {
     let mut shelf = shelf_of(alloc, &[])?;
     Ok(has_answer(alloc, &mut shelf, text)?)
+}
+
+/// Whether a case has its answer on a shelf that holds its own text under `own`.
+fn has_answer_to_own(alloc: Global, text: &str) -> Result<bool, Fail> {
+    let (own, case) = text.split_once("<\n").unwrap_or((text, ""));
+    let own = own.replace(alloc, "; ", "\n")?;
+    let mut shelf = shelf_of(alloc, &[])?;
+    shelf.put("own", own.trim().as_bytes())?;
+    Ok(has_answer(alloc, &mut shelf, case)?)
+}
+
+/// Whether each case of a transcript has its answer, each with a text of its own.
+///
+/// # Errors
+///
+/// The first case whose answer is another one; want of memory.
+pub(crate) fn have_answers_to_own(alloc: Global, transcript: &str) -> Result<(), Fail> {
+    for text in transcript.split('~').skip(1) {
+        if !has_answer_to_own(alloc, text)? {
+            return Err(Fail::from(text));
+        }
+    }
+    Ok(())
 }
 
 /// Whether each case of a transcript has its answer.
