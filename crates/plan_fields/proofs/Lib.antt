@@ -1,0 +1,4 @@
+pub mod CostLemmas
+pub mod GoodWords
+pub mod GoodPairs
+pub mod CodesFound
