@@ -6,4 +6,6 @@ mod amount_tests;
 #[cfg(test)]
 mod fault_tests;
 #[cfg(test)]
+mod rule_tests;
+#[cfg(test)]
 mod time_tests;

@@ -1,0 +1,8 @@
+use Rattle.std.proofs.Common.{◌≡◌, ◌++◌, ◌+◌, ◌≤◌, ℕ, List, [], ◌∷◌, length, map, take, drop, arith, sym, ap, ◌∙◌}
+use Rattle.plan_names.specs.Same.{same}
+use Rattle.plan_names.specs.Views.{kind_of, rule_of, symbol_of}
+use Rattle.plan_names.specs.Gathered.{has, place, with_all}
+use Rattle.plan_rules.proofs.gather.has_name.Given as goal
+
+abbrev pub invariant-loop-other : goal.invariant-loop-other
+invariant-loop-other l = has same (kind_of l.name) (map kind_of l.names) ≡ has same (kind_of l.name) (map kind_of (drop l.other-index l.names))

@@ -1,0 +1,6 @@
+use Rattle.std.proofs.Common.{◌≡◌, ◌++◌, ◌+◌, ◌≤◌, ℕ, List, [], ◌∷◌, length, map, take, drop, arith, sym, ap, ◌∙◌}
+use Rattle.plan_rules.specs.NameTexts.{set_codes}
+use Rattle.plan_rules.proofs.texts.add_set.Given as goal
+
+abbrev pub invariant-loop-activity : goal.invariant-loop-activity
+invariant-loop-activity l = l.text ≡ l.fn.text ++ set_codes (take l.activity-index l.set)

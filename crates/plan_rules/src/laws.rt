@@ -1,0 +1,19 @@
+//! The laws.
+
+ghost use Rattle.plan_rules.specs.PlanSays.{PlanSaysLaw};
+ghost use Rattle.plan_rules.specs.WrittenLaws.{WrittenLaw};
+
+/// States a law: what [`crate::written_rules`] writes is a grammar that is written for the plan, in the
+/// words of the law of plans and their grammars, by numbers that are places of names and of codes; the
+/// start is the name of all lines, and the number of a duty name's day is that of the name.
+pub fn rules_are_written()
+    ensures { WrittenLaw }
+{}
+
+/// States a law: where the duty lines of a plan, in numbers of periods, are handed to
+/// [`crate::written_rules`] by duty names, the grammar that is written says the plan as its planner wrote
+/// it. The start name has exactly the shifts of all duty lines, and each duty name, which is a name of the
+/// grammar, exactly those of its lines, each at exactly its price.
+pub fn rules_say_plan()
+    ensures { PlanSaysLaw }
+{}

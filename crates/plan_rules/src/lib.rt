@@ -1,0 +1,14 @@
+//! The rules of a plan: the grammar that is written for a plan in numbers of periods.
+#![tactic(auto)]
+
+mod codes;
+mod fault;
+mod gather;
+mod grammar;
+mod laws;
+mod numbers;
+mod texts;
+
+pub use fault::WriteFault;
+pub use grammar::written_rules;
+pub use laws::{rules_are_written, rules_say_plan};
