@@ -1,0 +1,3 @@
+pub mod TailLemmas
+pub mod RowLemmas
+pub mod GoodTails
