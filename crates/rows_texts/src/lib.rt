@@ -1,5 +1,5 @@
 //! Worked rows of the texts, as tests over public calls: lines and numbers, rules, demand and proof texts,
-//! and reports.
+//! old texts and reports.
 #![tactic(auto)]
 
 #[cfg(test)]
@@ -8,6 +8,8 @@ mod days;
 mod demand_tests;
 #[cfg(test)]
 mod line_tests;
+#[cfg(test)]
+mod old_tests;
 #[cfg(test)]
 mod proof_tests;
 #[cfg(test)]
