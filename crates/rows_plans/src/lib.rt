@@ -1,10 +1,19 @@
-//! Worked rows of plans, as tests over public calls: the words of a plan's lines, and what is said of faults.
+//! Worked rows of plans, as tests over public calls: the words of a plan's lines, what is said of faults, the
+//! rules of a plan, labels, and forecasts.
 #![tactic(auto)]
 
 #[cfg(test)]
 mod amount_tests;
 #[cfg(test)]
 mod fault_tests;
+#[cfg(test)]
+mod forecast_faults;
+#[cfg(test)]
+mod forecast_tests;
+#[cfg(test)]
+mod label_tests;
+#[cfg(test)]
+mod plans;
 #[cfg(test)]
 mod rule_tests;
 #[cfg(test)]

@@ -1,4 +1,4 @@
-//! Rule tests.
+//! How many names and rules plans have.
 
 use model_rosters::{Grammar, List, Memory, Window};
 use plan_laws::{Activity, NamedLines, PeriodDuty, PeriodExtra, PeriodPart, PeriodPlan};

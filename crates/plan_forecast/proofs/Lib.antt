@@ -1,0 +1,2 @@
+pub mod WorkTexts
+pub mod SmallForecasts
