@@ -14,7 +14,8 @@ use Rattle.plan_words.specs.Amounts.{hour_at}
 -- what begins something that stands behind the parts
 abbrev pub is_behind : List ℕ → Bool
 is_behind w =
-    bytes_eq w (codes "begin") || bytes_eq w (codes "end") || bytes_eq w (codes "stretch") || bytes_eq w (codes "plus")
+    bytes_eq w (codes "begin") || bytes_eq w (codes "end") || bytes_eq w (codes "stretch")
+    || bytes_eq w (codes "plus")
 
 -- between which times the duty begins
 unfoldable pub begin_word : PlanDay → Tail → List ℕ → List (List ℕ) → Result (Tail × ℕ) LineFault
@@ -26,7 +27,8 @@ begin_word d t w _ = Err (Part (Behind w))
 -- between which times it ends
 unfoldable pub end_word : PlanDay → Tail → List ℕ → List (List ℕ) → Result (Tail × ℕ) LineFault
 end_word d t w (a ∷ b ∷ ws) =
-    if is_some t.ends then Err (Part (Twice w)) else (ends_at d a b >>= λ x. Ok (record t { ends = Some x }, 2))
+    if is_some t.ends then Err (Part (Twice w))
+    else (ends_at d a b >>= λ x. Ok (record t { ends = Some x }, 2))
 end_word d t w _ = Err (Part (Behind w))
 
 -- how long its stretches last

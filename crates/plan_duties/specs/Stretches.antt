@@ -41,8 +41,8 @@ is_length xs range c =
 abbrev pub has_other : ℕ → List ℕ → Bool
 has_other c ends = list_any (λ other. not (nat_eq other c)) ends
 
--- where stretches of 0, 1 and so on periods may end with these codes, a stretch of as many periods as follow may
--- end with a block of this code, so many to so many periods long
+-- where stretches of 0, 1 and so on periods may end with these codes, a stretch of as many periods as follow
+-- may end with a block of this code, so many to so many periods long
 abbrev pub may_end : List (List ℕ) → ℕ → ℕ → ℕ → Bool
 may_end rows c least greatest =
     list_any (has_other c) (drop (length rows - greatest) (take (length rows + 1 - least) rows))
@@ -70,7 +70,8 @@ make_one d xs range cs =
 -- blocks of these codes make a stretch
 abbrev pub is_stretch : PlanDay → Draft → Lengths → List ℕ → Bool
 is_stretch d draft range cs =
-    if is_block draft.change cs then list_any (is_length draft.codes range) cs else make_one d draft.codes range cs
+    if is_block draft.change cs then list_any (is_length draft.codes range) cs
+    else make_one d draft.codes range cs
 
 -- a block of the code is no longer than a stretch
 abbrev pub block_in : Lengths → Option PlanCode → Result Unit LineFault

@@ -33,7 +33,8 @@ unfoldable pub work_greatest : Draft → Lengths → List ℕ → ℕ
 work_greatest draft range [] = range.greatest
 work_greatest draft range (c ∷ cs) =
     if is_block draft.change (c ∷ cs)
-    then min range.greatest (greatest_block draft.codes (lasts_of draft.codes c).greatest cs) else range.greatest
+    then min range.greatest (greatest_block draft.codes (lasts_of draft.codes c).greatest cs)
+    else range.greatest
 
 -- the least and the greatest that a part takes
 unfoldable pub part_least : Draft → Lengths → Part → ℕ

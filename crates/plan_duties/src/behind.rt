@@ -1,6 +1,6 @@
 //! What stands behind the parts.
 
-ghost use Rattle.std.specs.Prelude.{◌≡◌, ◌≢◌, drop};
+ghost use Rattle.std.specs.Prelude.{◌≡◌, ◌≢◌};
 ghost use Rattle.plan_duties.specs.BehindWords.{
   begin_word,
   behind_at,

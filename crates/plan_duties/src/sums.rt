@@ -1,6 +1,6 @@
 //! The parts together, and the times.
 
-ghost use Rattle.std.specs.Prelude.{◌≡◌, ◌≤◌, ◌+◌, ◌*◌, ◌^◌, length};
+ghost use Rattle.std.specs.Prelude.{◌≡◌, ◌≤◌, ◌^◌, length};
 ghost use Rattle.plan_duties.specs.Sums.{
   first_begin,
   first_end,

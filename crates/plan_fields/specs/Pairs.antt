@@ -21,7 +21,8 @@ lengths_at d w v =
 -- two begins
 unfoldable pub begins_at : PlanDay → List ℕ → List ℕ → Result Times LineFault
 begins_at d w v =
-    quoted w (begin_at d w) >>= λ a. quoted v (begin_at d v) >>= λ b. if nat_lt (begin_behind d b) (begin_behind d a)
+    quoted w (begin_at d w) >>= λ a. quoted v (begin_at d v)
+    >>= λ b. if nat_lt (begin_behind d b) (begin_behind d a)
     then Err (Pair w v Later) else Ok (record { from = a; to = b })
 
 -- two ends
@@ -33,7 +34,8 @@ ends_at d w v =
 -- a begin, and an end behind it
 unfoldable pub span_at : PlanDay → List ℕ → List ℕ → Result Times LineFault
 span_at d w v =
-    quoted w (begin_at d w) >>= λ a. quoted v (end_at d v) >>= λ b. if nat_le (end_behind d b) (begin_behind d a)
+    quoted w (begin_at d w) >>= λ a. quoted v (end_at d v)
+    >>= λ b. if nat_le (end_behind d b) (begin_behind d a)
     then Err (Pair w v NotBefore) else Ok (record { from = a; to = b })
 
 -- two numbers of employees

@@ -7,7 +7,6 @@ ghost use Rattle.plan_fields.specs.Costs.{
   extras_hour,
   lies_within,
   period_units,
-  too_costly,
   told,
 };
 

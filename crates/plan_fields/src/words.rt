@@ -142,7 +142,8 @@ pub fn cost(alloc: Global, decimals: u8, word: &[u8]) -> Result<u32, LineFault>
 ///
 /// The word's fault; `Memory` where memory runs out.
 pub fn hour(alloc: Global, day: &Day, decimals: u8, word: &[u8]) -> Result<u32, LineFault>
-    ensures value { Reads (λ n. n) result (quoted word.now (amounts.hour_at day.now.minutes decimals word.now)) }
+    ensures value { Reads (λ n. n) result
+        (quoted word.now (amounts.hour_at day.now.minutes decimals word.now)) }
     ensures small { IfOk result (λ n. n ≤ 600059) }
 {
     match plan_words::hour(day, decimals, word) {
