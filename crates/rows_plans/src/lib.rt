@@ -16,5 +16,6 @@ mod label_tests;
 mod plans;
 #[cfg(test)]
 mod rule_tests;
+mod text_tests;
 #[cfg(test)]
 mod time_tests;

@@ -1,0 +1,3 @@
+pub mod StartLemmas
+pub mod GoodDrafts
+pub mod GoodReadings

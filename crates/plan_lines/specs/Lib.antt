@@ -1,0 +1,11 @@
+pub mod Signs
+pub mod Kinds
+pub mod Readings
+pub mod DayLines
+pub mod MoneyLines
+pub mod CodeLines
+pub mod StartLines
+pub mod StaffLines
+pub mod DraftLines
+pub mod Lines
+pub mod Plans
