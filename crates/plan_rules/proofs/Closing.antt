@@ -44,7 +44,7 @@ names_of_rules_one = record {
 }
 
 module _ (p : PeriodPlan) (xs : List NamedLines) where
-  used_behind : (js ks : List Kind) → used_by p xs (js ++ ks) ≡ used_by p xs js ++ used_by p xs ks
+  pub used_behind : (js ks : List Kind) → used_by p xs (js ++ ks) ≡ used_by p xs js ++ used_by p xs ks
   used_behind [] ks = refl
   used_behind (j ∷ js) ks =
       ap (λ us. names_of_rules (written_for p xs j) ++ us) (used_behind js ks)

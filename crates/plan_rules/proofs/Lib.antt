@@ -4,3 +4,13 @@ pub mod TextPlaces
 pub mod Members
 pub mod WrittenLemmas
 pub mod Says
+pub mod FineRules
+pub mod Appearing
+pub mod InOrder
+pub mod Ranks
+pub mod SoundCodes
+pub mod SoundRules
+pub mod SoundTexts
+pub mod OtherTexts
+pub mod SoundGrammar
+pub mod TextSaysLemmas

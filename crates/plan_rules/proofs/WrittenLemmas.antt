@@ -35,7 +35,7 @@ use Rattle.plan_rules.proofs.Members.{same_members}
 use Rattle.plan_rules.proofs.TextPlaces.{text_at}
 
 module _ (num : Numbers Kind) (w : Kind → List (NamedRule Kind)) where
-  from_all : (ks : List Kind) (rule : Rule) → In rule (all_rules num w ks) → (k : Kind) × (own : NamedRule Kind) × In k ks × In own (w k) × (rule ≡ to_rule num k own)
+  pub from_all : (ks : List Kind) (rule : Rule) → In rule (all_rules num w ks) → (k : Kind) × (own : NamedRule Kind) × In k ks × In own (w k) × (rule ≡ to_rule num k own)
   from_all [] rule h = absurd h
   from_all (k ∷ ks) rule h = go (in_either rule (map (to_rule num k) (w k)) (all_rules num w ks) h) (from_all ks rule)
     where
@@ -45,7 +45,7 @@ module _ (num : Numbers Kind) (w : Kind → List (NamedRule Kind)) where
       go (inl at) more = let l = from_map (to_rule num k) (w k) rule at in (k, l.0, inl refl, l.1, l.2)
       go (inr at) more = let m = more at in (m.0, m.1, inr m.2, m.3, m.4)
 
-  to_all : (ks : List Kind) (k : Kind) (own : NamedRule Kind) → In k ks → In own (w k) → In (to_rule num k own) (all_rules num w ks)
+  pub to_all : (ks : List Kind) (k : Kind) (own : NamedRule Kind) → In k ks → In own (w k) → In (to_rule num k own) (all_rules num w ks)
   to_all [] k own at one = absurd at
   to_all (j ∷ ks) k own (inl e) one =
       in_first (to_rule num k own) (map (to_rule num j) (w j)) (all_rules num w ks)
@@ -65,7 +65,7 @@ each_name P (coded c ∷ ss) h = each_name P ss h
 each_name P (named k ∷ ss) h = (h k (inl refl), each_name P ss (λ x at. h x (inr at)))
 
 -- the first code of a letter
-code_at : (c : ℕ) (ds : List CodeDef) (d : CodeDef) → In d ds → d.byte ≡ c → (e : CodeDef) × (slice_get ds (code_place c ds) ≡ Some e) × (e.byte ≡ c)
+pub code_at : (c : ℕ) (ds : List CodeDef) (d : CodeDef) → In d ds → d.byte ≡ c → (e : CodeDef) × (slice_get ds (code_place c ds) ≡ Some e) × (e.byte ≡ c)
 code_at c [] d at same = absurd at
 code_at c (x ∷ ds) d at same = go (nat_eq x.byte c) refl at (λ h. code_at c ds d h same)
   where
@@ -97,7 +97,7 @@ code_in work (b ∷ all) a at w = go (same_bool b.work work) refl at (λ h. code
         never e = cc
     go false e (inr at) more = more at
 
-letter_code : (p : PeriodPlan) (c : ℕ) → IsLetter p c → (d : CodeDef) × In d (plan_codes p) × (d.byte ≡ c)
+pub letter_code : (p : PeriodPlan) (c : ℕ) → IsLetter p c → (d : CodeDef) × In d (plan_codes p) × (d.byte ≡ c)
 letter_code p c (inl e) =
     let off : CodeDef = record { byte = p.off; work = false } in
     (off, in_second off (codes_of true p.activities) (off ∷ codes_of false p.activities) (inl refl), sym e)
@@ -113,7 +113,7 @@ letter_code p c (inr (a, at, e)) = go a.work refl
         let off : CodeDef = record { byte = p.off; work = false } in
         (own, in_second own (codes_of true p.activities) (off ∷ codes_of false p.activities) (inr (code_in false p.activities a at w)), sym e)
 
-spelled : (p : PeriodPlan) (g : Grammar) → g.codes ≡ plan_codes p → (c : ℕ) → IsLetter p c → byte_of g (code_place c (plan_codes p)) ≡ c ∷ []
+pub spelled : (p : PeriodPlan) (g : Grammar) → g.codes ≡ plan_codes p → (c : ℕ) → IsLetter p c → byte_of g (code_place c (plan_codes p)) ≡ c ∷ []
 spelled p g is c letter =
     let l = letter_code p c letter in
     let found = code_at c (plan_codes p) l.0 l.1 l.2 in

@@ -5,3 +5,6 @@ pub mod Grammars
 pub mod Outcomes
 pub mod WrittenLaws
 pub mod PlanSays
+pub mod Writable
+pub mod SoundLaws
+pub mod RuleTexts

@@ -1,6 +1,8 @@
 //! The laws.
 
 ghost use Rattle.plan_rules.specs.PlanSays.{PlanSaysLaw};
+ghost use Rattle.plan_rules.specs.RuleTexts.{TextSaysLaw};
+ghost use Rattle.plan_rules.specs.SoundLaws.{SoundLaw};
 ghost use Rattle.plan_rules.specs.WrittenLaws.{WrittenLaw};
 
 /// States a law: what [`crate::written_rules`] writes is a grammar that is written for the plan, in the
@@ -16,4 +18,18 @@ pub fn rules_are_written()
 /// grammar, exactly those of its lines, each at exactly its price.
 pub fn rules_say_plan()
     ensures { PlanSaysLaw }
+{}
+
+/// States a law: the grammar of the names that the rules of a plan need is sound, where the plan's numbers,
+/// costs, codes and duty names are those that a plan text can say ([`crate::written_rules`] checks it before
+/// it is handed out), and there are no more names and rules than a rules text can say.
+pub fn rules_are_sound()
+    ensures { SoundLaw }
+{}
+
+/// States a law: where the duty lines of a plan, in numbers of periods, are handed to
+/// [`crate::rules_text_of`] by duty names, the text reads as a grammar that says the plan as its planner
+/// wrote it, in the words of [`rules_say_plan`].
+pub fn text_says_plan()
+    ensures { TextSaysLaw }
 {}
