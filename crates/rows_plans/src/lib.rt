@@ -1,5 +1,5 @@
 //! Worked rows of plans, as tests over public calls: the words of a plan's lines, what is said of faults, the
-//! rules of a plan, labels, and forecasts.
+//! rules of a plan, labels, forecasts, and plan texts.
 #![tactic(auto)]
 
 #[cfg(test)]
@@ -16,6 +16,7 @@ mod label_tests;
 mod plans;
 #[cfg(test)]
 mod rule_tests;
+#[cfg(test)]
 mod text_tests;
 #[cfg(test)]
 mod time_tests;

@@ -1,4 +1,4 @@
-//! Text tests.
+//! Plan texts that are read, and the line of the fault of others.
 
 use model_rosters::{List, Memory};
 use plan_faults::fault_line;
