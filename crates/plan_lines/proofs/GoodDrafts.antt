@@ -1,12 +1,12 @@
 -- What lines behind the day line say is fit.
-use Rattle.std.proofs.Common.{◌≡◌, ◌≢◌, ◌⊎◌, inl, inr, ℕ, zero, suc, ◌+◌, ◌*◌, ◌/◌, ◌%◌, ◌<◌, ◌≤◌, Bool, true, false, not, cond, eqb, ltb, List, [], ◌∷◌, ◌++◌, length, Option, Some, None, Result, Ok, Err, arith, refl, sym, ap, ◌∙◌, subst}
+use Rattle.std.proofs.Common.{◌≡◌, ◌≢◌, ℕ, suc, ◌+◌, ◌*◌, ◌/◌, ◌%◌, ◌<◌, ◌≤◌, Bool, true, false, not, cond, eqb, ltb, List, [], ◌∷◌, ◌++◌, length, Option, Some, None, Ok, arith, refl, sym, subst}
 use Rattle.std.proofs.Math.Dec.{leb}
 use Rattle.std.specs.Prelude.{is_some}
 use Rattle.std.proofs.lemmas.Bool.{ltb-false}
 use Rattle.text_lines.proofs.ListLemmas.{not_false}
-use Rattle.text_lines.proofs.StepsLemmas.{bind_ok, held, ok, passed, same_ok}
-use Rattle.model_rosters.proofs.EachLemmas.{Each-at, Each-push}
-use Rattle.model_rosters.specs.Folds.{Each, In}
+use Rattle.text_lines.proofs.StepsLemmas.{bind_ok, passed, same_ok}
+use Rattle.model_rosters.proofs.EachLemmas.{Each-push}
+use Rattle.model_rosters.specs.Folds.{Each}
 use Rattle.plan_duties.proofs.GoodTails.{IsGoodDuty, MayLast, duty_good}
 use Rattle.plan_duties.specs.DutyLines.{duty_at}
 use Rattle.plan_duties.specs.Fits.{duty_fits}
@@ -29,7 +29,6 @@ use Rattle.plan_lines.specs.MoneyLines.{has_amounts, money_line, new_money}
 use Rattle.plan_lines.specs.StaffLines.{all_staff, begins_number, duty_line, has_unnamed, named_staff, named_words, new_duty, new_staff, staff_line, with_staff}
 use Rattle.plan_lines.specs.StartLines.{change_line, new_change, new_starts, new_stretch, some_start, starts_line, starts_of, starts_word, stretch_line}
 use Rattle.plan_meaning.specs.Times.{begin_minute}
-use Rattle.plan_meaning.specs.Whole.{IsMultiple}
 use Rattle.plan_meaning.specs.declared.plan.Duty.{Duty}
 use Rattle.plan_meaning.specs.declared.plan.Extra.{Extra}
 use Rattle.plan_meaning.specs.declared.plan.Lengths.{Lengths}

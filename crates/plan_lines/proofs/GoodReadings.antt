@@ -1,11 +1,11 @@
 -- What all lines of a plan say is fit.
-use Rattle.std.proofs.Common.{◌≡◌, ℕ, ◌≤◌, Bool, true, false, not, ◌&&◌, ◌||◌, cond, eqb, ltb, List, [], ◌∷◌, length, Option, Some, None, Result, Ok, Err, arith, refl, sym, ap, ◌∙◌, subst}
+use Rattle.std.proofs.Common.{◌≡◌, ℕ, ◌≤◌, Bool, true, false, not, ◌&&◌, cond, eqb, List, [], ◌∷◌, Option, Some, None, Result, Ok, Err, refl, sym, ap, subst}
 use Rattle.std.proofs.Math.Dec.{leb}
 use Rattle.std.specs.Prelude.{is_some}
 use Rattle.std.proofs.lemmas.Bool.{leb-true, ltb-false}
 use Rattle.text_lines.proofs.FieldsLemmas.{number_within}
 use Rattle.text_lines.proofs.ListLemmas.{not_false, same_number}
-use Rattle.text_lines.proofs.StepsLemmas.{bind_ok, each_keeps, held, passed, same_ok}
+use Rattle.text_lines.proofs.StepsLemmas.{bind_ok, each_keeps, passed, same_ok}
 use Rattle.text_lines.specs.Lines.{before_comment}
 use Rattle.text_lines.specs.Words.{words}
 use Rattle.plan_cells.specs.Lines.{NumberedLine, text_lines}
@@ -27,7 +27,6 @@ use Rattle.plan_lines.specs.Plans.{item_at, located, reading_of}
 use Rattle.plan_lines.specs.Readings.{nothing}
 use Rattle.plan_lines.specs.Signs.{is_plain, signs_of}
 use Rattle.plan_lines.specs.declared.reading.Reading.{Reading}
-use Rattle.plan_meaning.specs.Times.{day_length}
 use Rattle.plan_meaning.specs.declared.plan.PlanDay.{PlanDay}
 use Rattle.plan_meaning.specs.declared.plan.Time.{Time}
 use Rattle.plan_words.specs.Days.{IsSoundDay, day_of}

@@ -1,3 +1,4 @@
 pub mod StartLemmas
 pub mod GoodDrafts
 pub mod GoodReadings
+pub mod GoodPlans
