@@ -1,5 +1,5 @@
 -- A plan that was read is fit.
-use Rattle.std.proofs.Common.{◌≡◌, ◌≢◌, inl, inr, ℕ, ◌+◌, ◌*◌, ◌/◌, ◌≤◌, List, [], ◌∷◌, length, Option, Some, None, Ok, arith, refl, sym, ap, ◌∙◌, mul-le-mul_right}
+use Rattle.std.proofs.Common.{◌≡◌, ◌≢◌, inl, inr, ℕ, ◌+◌, ◌*◌, ◌/◌, ◌≤◌, List, [], ◌∷◌, Option, Some, None, Ok, arith, refl, sym, ap, ◌∙◌, mul-le-mul_right}
 use Rattle.std.proofs.Math.Nat.{mul-div_cancel}
 use Rattle.model_rosters.proofs.EachLemmas.{Each-at, Each-weaker, each_all}
 use Rattle.model_rosters.specs.Folds.{In}
@@ -10,7 +10,7 @@ use Rattle.plan_lines.proofs.GoodDrafts.{AreApart, IsGoodCode, IsGoodExtra, MayS
 use Rattle.plan_lines.proofs.GoodPlans.{IsGoodPlan, plan_good}
 use Rattle.plan_lines.specs.Plans.{plan_of}
 use Rattle.plan_meaning.specs.Shifts.{stretch_of}
-use Rattle.plan_meaning.specs.Times.{begin_minute, day_length, periods}
+use Rattle.plan_meaning.specs.Times.{begin_minute, day_length}
 use Rattle.plan_meaning.specs.Whole.{AreWhole, AreWholeBegins, AreWholeEnds, AreWholeStarts, IsFirstStart, IsMultiple, IsWholeCode, IsWholeDuty, IsWholeExtra, IsWholePart, IsWholePlan}
 use Rattle.plan_meaning.specs.declared.plan.Duty.{Duty}
 use Rattle.plan_meaning.specs.declared.plan.Extra.{Extra}
