@@ -1,27 +1,16 @@
 -- Names appear in rules in the order of their numbers.
-use Rattle.std.proofs.Common.{◌≡◌, ◌⊎◌, inl, inr, ℕ, zero, suc, ◌+◌, ◌<◌, ◌≤◌, Bool, true, false, ◌||◌, cond, max, Option, None, Some, List, [], ◌∷◌, ◌++◌, length, map, take, slice_get, arith, refl, sym, ap, ◌∙◌, subst, length-append}
-use Rattle.std.proofs.lemmas.List.{append_assoc, append-nil}
+use Rattle.std.proofs.Common.{◌≡◌, ℕ, zero, suc, ◌+◌, ◌<◌, ◌≤◌, Bool, true, false, ◌||◌, cond, max, Some, List, [], ◌∷◌, ◌++◌, length, map, take, slice_get, arith, refl, sym, ap, ◌∙◌, subst, length-append}
+use Rattle.std.proofs.lemmas.List.{append_assoc}
 use Rattle.std.proofs.Math.Nat.{max-eq_left, max-eq_right}
 use Rattle.model_rosters.specs.declared.grammar.Rule.{Rule}
-use Rattle.model_rosters.specs.declared.grammar.Sym.{Sym}
-use Rattle.model_rosters.specs.Folds.{Each, In}
 use Rattle.model_rosters.specs.Sound.{AreInOrder, appearances, names_of}
-use Rattle.model_rosters.proofs.EachLemmas.{get-in}
-use Rattle.plan_laws.specs.declared.period_plan.NamedLines.{NamedLines}
-use Rattle.plan_laws.specs.declared.period_plan.PeriodPlan.{PeriodPlan}
-use Rattle.plan_laws.specs.Named.{NamedRule, Numbers, Symbol, all_rules, coded, named, to_rule, to_sym}
+use Rattle.plan_laws.specs.Named.{NamedRule, Numbers, Symbol, coded, named, to_rule, to_sym}
 use Rattle.plan_laws.specs.Names.{Kind}
-use Rattle.plan_laws.proofs.Sides.{all_each}
-use Rattle.plan_laws.proofs.Trees.{each_in}
-use Rattle.plan_laws.proofs.Words.{each_side}
 use Rattle.plan_names.specs.Gathered.{has, place, with_all, with_new}
 use Rattle.plan_names.specs.Same.{same}
-use Rattle.plan_names.specs.StartNames.{start_kind}
-use Rattle.plan_names.specs.WrittenFor.{written_for}
-use Rattle.plan_names.proofs.Gathering.{all_append, all_behind, all_kept, has_in, none_else}
-use Rattle.plan_names.proofs.SameNames.{is_same, own_same}
-use Rattle.plan_rules.specs.Closed.{IsClosed, gathered, names_in, names_of_rules, used_by}
-use Rattle.plan_rules.proofs.Closing.{used_behind}
+use Rattle.plan_names.proofs.Gathering.{all_append, all_behind}
+use Rattle.plan_names.proofs.SameNames.{own_same}
+use Rattle.plan_rules.specs.Closed.{names_in, names_of_rules}
 
 no_false : false ≡ true → ⊥
 no_false e = cc

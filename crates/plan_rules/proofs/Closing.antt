@@ -1,10 +1,10 @@
 -- The names that rules need, gathered from name to name.
-use Rattle.std.proofs.Common.{◌≡◌, ◌⊎◌, inl, inr, ℕ, zero, suc, ◌<◌, ◌≤◌, ◌+◌, Bool, true, false, List, [], ◌∷◌, ◌++◌, length, map, take, arith, refl, sym, ap, ◌∙◌, subst, length-append}
+use Rattle.std.proofs.Common.{◌≡◌, ◌⊎◌, inl, inr, ℕ, zero, suc, ◌<◌, ◌≤◌, ◌+◌, List, [], ◌∷◌, ◌++◌, length, map, take, arith, refl, sym, ap, ◌∙◌, subst, length-append}
 use Rattle.std.proofs.lemmas.List.{append_assoc, append-nil, take-append-le}
 use Rattle.model_rosters.specs.Folds.{In}
 use Rattle.plan_laws.specs.declared.period_plan.NamedLines.{NamedLines}
 use Rattle.plan_laws.specs.declared.period_plan.PeriodPlan.{PeriodPlan}
-use Rattle.plan_laws.specs.Named.{NamedRule, Symbol, coded, named}
+use Rattle.plan_laws.specs.Named.{NamedRule}
 use Rattle.plan_laws.specs.Names.{Kind}
 use Rattle.plan_laws.proofs.ItemByItem.{IsItemByItem}
 use Rattle.plan_laws.proofs.Words.{in_first, in_second}

@@ -1,7 +1,6 @@
 -- The names that rules need: what holds of each of them, and in which order they appear.
-use Rattle.std.proofs.Common.{◌≡◌, ◌⊎◌, inl, inr, ℕ, zero, suc, ◌+◌, ◌<◌, ◌≤◌, Bool, true, false, cond, max, Option, None, Some, List, [], ◌∷◌, ◌++◌, length, map, take, slice_get, arith, refl, sym, ap, ◌∙◌, subst, length-append}
-use Rattle.std.proofs.lemmas.List.{append_assoc, append-nil}
-use Rattle.model_rosters.specs.declared.grammar.Rule.{Rule}
+use Rattle.std.proofs.Common.{◌≡◌, ◌⊎◌, inl, inr, ℕ, zero, suc, ◌<◌, Bool, cond, Some, List, [], ◌∷◌, ◌++◌, length, map, take, slice_get, arith, refl, sym, ap, ◌∙◌, subst, length-append}
+use Rattle.std.proofs.lemmas.List.{append-nil}
 use Rattle.model_rosters.specs.Folds.{Each, In}
 use Rattle.model_rosters.specs.Sound.{AreInOrder, appearances, names_of}
 use Rattle.model_rosters.proofs.EachLemmas.{get-in}
@@ -12,7 +11,7 @@ use Rattle.plan_laws.specs.Names.{Kind}
 use Rattle.plan_laws.proofs.Sides.{all_each}
 use Rattle.plan_laws.proofs.Trees.{each_in}
 use Rattle.plan_laws.proofs.Words.{each_side}
-use Rattle.plan_names.specs.Gathered.{has, place, with_all}
+use Rattle.plan_names.specs.Gathered.{place, with_all}
 use Rattle.plan_names.specs.Same.{same}
 use Rattle.plan_names.specs.StartNames.{start_kind}
 use Rattle.plan_names.specs.WrittenFor.{written_for}

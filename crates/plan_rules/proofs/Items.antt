@@ -1,7 +1,6 @@
 -- Functions of lists that go item by item.
-use Rattle.std.proofs.Common.{◌≡◌, ℕ, zero, suc, ◌+◌, ◌<◌, ◌≤◌, Bool, true, false, cond, List, [], ◌∷◌, ◌++◌, length, map, take, get_or, arith, refl, sym, ap, ◌∙◌}
+use Rattle.std.proofs.Common.{◌≡◌, ℕ, ◌+◌, ◌<◌, Bool, true, false, cond, List, [], ◌∷◌, ◌++◌, length, map, take, get_or, refl, sym, ap}
 use Rattle.std.proofs.lemmas.List.{append-nil, get_or_default}
-use Rattle.model_rosters.specs.declared.grammar.CodeDef.{CodeDef}
 use Rattle.plan_laws.specs.declared.period_plan.Activity.{Activity}
 use Rattle.plan_laws.specs.Named.{NamedRule, Numbers, all_rules, to_rule}
 use Rattle.plan_laws.specs.Names.{Kind}

@@ -14,3 +14,5 @@ pub mod SoundTexts
 pub mod OtherTexts
 pub mod SoundGrammar
 pub mod TextSaysLemmas
+pub mod WritableRow
+pub mod SaidLemmas

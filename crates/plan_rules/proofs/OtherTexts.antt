@@ -1,7 +1,6 @@
 -- No two names are called the same.
 use Rattle.std.proofs.Common.{◌≡◌, ◌≢◌, ◌⊎◌, inl, inr, ℕ, zero, suc, ◌+◌, ◌/◌, ◌%◌, ◌<◌, ◌≤◌, Bool, true, false, cond, nat_lt, Option, None, Some, List, [], ◌∷◌, ◌++◌, length, slice_get, arith, refl, sym, ap, ◌∙◌, subst}
-use Rattle.std.proofs.lemmas.Bool.{ltb-true, ltb-false}
-use Rattle.std.proofs.lemmas.Option.{same_Some, slice_get_within}
+use Rattle.std.proofs.lemmas.Option.{slice_get_within}
 use Rattle.model_rosters.specs.Folds.{Each, In}
 use Rattle.model_rosters.proofs.EachLemmas.{Each-get, get-in}
 use Rattle.plan_laws.specs.declared.period_plan.NamedLines.{NamedLines}
@@ -13,8 +12,8 @@ use Rattle.plan_names.specs.Gathered.{has, with_all, with_new}
 use Rattle.plan_names.specs.Same.{same}
 use Rattle.plan_names.proofs.Gathering.{in_has}
 use Rattle.plan_names.proofs.SameNames.{is_same, own_same}
-use Rattle.plan_rules.specs.NameTexts.{digits, name_text, name_texts, numbered}
-use Rattle.plan_rules.specs.Writable.{AreFineNames, AreOtherNames, IsDutyName, IsWritable}
+use Rattle.plan_rules.specs.NameTexts.{digits, name_text, name_texts}
+use Rattle.plan_rules.specs.Writable.{AreFineNames, AreOtherNames, IsWritable}
 use Rattle.plan_rules.proofs.FineRules.{Fine}
 use Rattle.plan_rules.proofs.SoundTexts.{IsDutyText, IsNumbered, fine_digits, texts_are}
 

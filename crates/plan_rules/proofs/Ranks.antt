@@ -1,11 +1,11 @@
 -- Rules of one name lead to names of a lower rank, and so to a name with more names above it.
-use Rattle.std.proofs.Common.{◌≡◌, ◌⊎◌, inl, inr, ℕ, zero, suc, ◌+◌, ◌<◌, ◌≤◌, Bool, true, false, cond, nat_lt, Option, None, Some, List, [], ◌∷◌, ◌++◌, length, map, slice_get, arith, refl, sym, ap, ◌∙◌, subst}
+use Rattle.std.proofs.Common.{◌≡◌, inl, inr, ℕ, zero, suc, ◌+◌, ◌<◌, ◌≤◌, Bool, true, false, cond, nat_lt, Option, None, Some, List, [], ◌∷◌, length, map, slice_get, arith, refl, sym, ap, ◌∙◌, subst}
 use Rattle.std.proofs.lemmas.Bool.{ltb-true, ltb-false}
 use Rattle.model_rosters.specs.declared.grammar.Grammar.{Grammar}
 use Rattle.model_rosters.specs.declared.grammar.Rule.{Rule}
 use Rattle.model_rosters.specs.declared.grammar.Sym.{Sym}
 use Rattle.model_rosters.specs.declared.grammar.Sym.TheVariants.{Code, Name}
-use Rattle.model_rosters.specs.Folds.{Each, In, count}
+use Rattle.model_rosters.specs.Folds.{In, count}
 use Rattle.model_rosters.specs.Grammar.{rule_at}
 use Rattle.model_rosters.specs.UnitRules.{IsRanked}
 use Rattle.model_rosters.proofs.EachLemmas.{get-in}

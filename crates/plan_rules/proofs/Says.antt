@@ -1,5 +1,5 @@
 -- The grammar that is written for a plan says the plan.
-use Rattle.std.proofs.Common.{◌≡◌, ◌≢◌, ◌⊎◌, inl, inr, ℕ, ◌≤◌, Bool, true, false, not, IsTrue, cond, ◌&&◌, ◌||◌, nat_eq, nat_le, max, Option, None, Some, List, [], ◌∷◌, ◌++◌, length, map, slice_get, arith, refl, sym, ap, ◌∙◌, subst}
+use Rattle.std.proofs.Common.{◌≡◌, ◌≢◌, ◌⊎◌, inl, inr, ℕ, ◌≤◌, Bool, true, false, not, IsTrue, cond, ◌&&◌, ◌||◌, nat_eq, nat_le, max, None, Some, List, [], ◌∷◌, length, slice_get, arith, refl, sym, ap, ◌∙◌, subst}
 use Rattle.std.proofs.Math.Nat.{le-max_left, le-max_right}
 use Rattle.std.proofs.lemmas.Bool.{eq-eqb, leb-true}
 use Rattle.std.proofs.lemmas.List.{append-nil}
@@ -16,8 +16,7 @@ use Rattle.plan_laws.specs.declared.period_plan.Activity.{Activity}
 use Rattle.plan_laws.specs.declared.period_plan.NamedLines.{NamedLines}
 use Rattle.plan_laws.specs.declared.period_plan.PeriodDuty.{PeriodDuty}
 use Rattle.plan_laws.specs.declared.period_plan.PeriodPart.{PeriodPart}
-use Rattle.plan_laws.specs.declared.period_plan.PeriodPart.TheVariants.{Pausing, Working}
-use Rattle.plan_laws.specs.declared.period_plan.PeriodPlan.{PeriodPlan}
+use Rattle.plan_laws.specs.declared.period_plan.PeriodPart.TheVariants.{Working}
 use Rattle.plan_laws.specs.Laws.{all_lines}
 use Rattle.plan_laws.specs.Names.{Free, Kind, day, start}
 use Rattle.plan_laws.specs.PeriodShifts.{change_cost}
@@ -27,11 +26,10 @@ use Rattle.plan_laws.proofs.Turning.{to_map, to_named}
 use Rattle.plan_laws.proofs.WholeRules.{rules_law}
 use Rattle.plan_laws.proofs.Words.{in_either}
 use Rattle.plan_names.specs.FreeCodes.{free_of, has_work_of, is_work_of, line_longest, longest_from, longest_of}
-use Rattle.plan_names.specs.Same.{same_set}
 use Rattle.plan_names.specs.StartNames.{only_day, start_kind}
 use Rattle.plan_names.proofs.SameNames.{set_decides}
 use Rattle.plan_rules.specs.Outcomes.{HasWritten}
-use Rattle.plan_rules.specs.PlanSays.{AreLinesOf, PlanSaysLaw, SaysAll}
+use Rattle.plan_rules.specs.PlanSays.{AreLinesOf, PlanSaysLaw}
 use Rattle.plan_rules.specs.WrittenLaws.{IsWrittenFor}
 use Rattle.plan_rules.proofs.WrittenLemmas.{written_for_plan}
 

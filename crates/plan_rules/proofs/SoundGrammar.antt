@@ -1,23 +1,18 @@
 -- The grammar of the names of a writable plan is sound.
-use Rattle.std.proofs.Common.{◌≡◌, ◌≢◌, ◌⊎◌, inl, inr, ℕ, zero, suc, ◌+◌, ◌<◌, ◌≤◌, All, Bool, true, false, ◌||◌, cond, nat_eq, nat_lt, Option, None, Some, List, [], ◌∷◌, ◌++◌, length, map, slice_get, arith, refl, sym, ap, ◌∙◌, subst, length-append}
-use Rattle.std.specs.List.{list_any}
+use Rattle.std.proofs.Common.{◌≡◌, ◌≢◌, inl, inr, ℕ, zero, suc, ◌+◌, ◌<◌, ◌≤◌, Bool, true, false, ◌||◌, nat_eq, nat_lt, Some, List, [], ◌∷◌, length, map, slice_get, arith, refl, sym, ap, ◌∙◌, subst, length-append}
 use Rattle.std.proofs.lemmas.Bool.{eq-eqb, ltb-false, ltb-true}
 use Rattle.std.proofs.lemmas.List.{length-map}
-use Rattle.std.proofs.lemmas.Option.{slice_get_within, slice_get-get_or}
 use Rattle.model_rosters.specs.declared.grammar.Grammar.{Grammar}
 use Rattle.model_rosters.specs.declared.grammar.Rule.{Rule}
 use Rattle.model_rosters.specs.Folds.{Each, In}
 use Rattle.model_rosters.specs.Names.{added_name, is_name}
 use Rattle.model_rosters.specs.Sound.{AreCodes, AreInOrder, AreNames, IsPlain, IsRule, IsSound, appearances, has_rule}
-use Rattle.model_rosters.specs.UnitRules.{IsRanked}
 use Rattle.model_rosters.proofs.EachLemmas.{Each-get, Each-in, each_all, get-in}
 use Rattle.plan_laws.specs.declared.period_plan.NamedLines.{NamedLines}
-use Rattle.plan_laws.specs.declared.period_plan.PeriodDuty.{PeriodDuty}
 use Rattle.plan_laws.specs.declared.period_plan.PeriodPlan.{PeriodPlan}
 use Rattle.plan_laws.specs.Named.{EachSymbol, NamedRule, Numbers, Symbol, all_rules, coded, named, to_rule}
-use Rattle.plan_laws.specs.Names.{Free, Kind, day, rank, rules_for, start}
+use Rattle.plan_laws.specs.Names.{Free, Kind, rules_for}
 use Rattle.plan_laws.specs.PeriodShifts.{IsLetter}
-use Rattle.plan_laws.proofs.Sides.{all_each}
 use Rattle.plan_laws.proofs.Trees.{each_in}
 use Rattle.plan_laws.proofs.Words.{each_side}
 use Rattle.plan_names.specs.FreeCodes.{free_of}
@@ -29,7 +24,7 @@ use Rattle.plan_names.proofs.Gathering.{at_place}
 use Rattle.plan_names.proofs.SameNames.{is_same, own_same}
 use Rattle.plan_rules.specs.Closed.{IsClosed, count_rules, names_in, names_of_rules, used_by}
 use Rattle.plan_rules.specs.Grammars.{IsGrammarOf, code_place, numbers_of, plan_codes}
-use Rattle.plan_rules.specs.NameTexts.{name_text, name_texts}
+use Rattle.plan_rules.specs.NameTexts.{name_texts}
 use Rattle.plan_rules.specs.SoundLaws.{SoundLaw}
 use Rattle.plan_rules.specs.Writable.{AreFineNames, IsWritable}
 use Rattle.plan_rules.proofs.Closing.{name_in, start_in}

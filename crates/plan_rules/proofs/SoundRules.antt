@@ -1,9 +1,7 @@
 -- The rules of a writable plan are sound, with names and letters as numbers.
-use Rattle.std.proofs.Common.{◌≡◌, ℕ, ◌+◌, ◌<◌, ◌≤◌, All, Option, None, Some, List, [], ◌∷◌, ◌++◌, inl, inr, length, map, slice_get, arith, refl, sym, ap, ◌∙◌, subst}
+use Rattle.std.proofs.Common.{ℕ, ◌<◌, List, [], ◌∷◌, inl, inr, length, map, arith, refl}
 use Rattle.std.proofs.lemmas.List.{length-map}
 use Rattle.std.proofs.lemmas.Option.{slice_get_within}
-use Rattle.model_rosters.specs.declared.grammar.Rule.{Rule}
-use Rattle.model_rosters.specs.declared.grammar.Sym.{Sym}
 use Rattle.model_rosters.specs.Folds.{Each, In}
 use Rattle.model_rosters.specs.Sound.{Exists, IsRule}
 use Rattle.model_rosters.proofs.EachLemmas.{each_all}

@@ -1,8 +1,8 @@
 -- What the names of a writable plan are called are names of a rules text.
-use Rattle.std.proofs.Common.{◌≡◌, ◌≢◌, ◌⊎◌, inl, inr, ℕ, zero, suc, ◌+◌, ◌/◌, ◌%◌, ◌<◌, ◌≤◌, Bool, true, false, not, cond, nat_lt, ◌&&◌, ◌||◌, List, [], ◌∷◌, ◌++◌, length, map, codes, arith, refl, sym, ap, ◌∙◌, subst, length-append, get_or, eqb, leb, ltb}
+use Rattle.std.proofs.Common.{◌≡◌, ◌≢◌, ◌⊎◌, inl, inr, ℕ, suc, ◌+◌, ◌/◌, ◌%◌, ◌<◌, ◌≤◌, Bool, true, false, not, cond, nat_lt, ◌&&◌, ◌||◌, List, [], ◌∷◌, ◌++◌, length, codes, arith, refl, sym, ap, ◌∙◌, subst, length-append, get_or, eqb, leb}
 use Rattle.std.specs.List.{list_all}
 use Rattle.std.specs.Str.{bytes_eq}
-use Rattle.std.proofs.lemmas.Bool.{and_from, and_parts, eqb-true, le-leb, lt-ltb, ltb-true, ltb-false, or_cases}
+use Rattle.std.proofs.lemmas.Bool.{and_from, and_parts, le-leb, lt-ltb, ltb-true}
 use Rattle.std.proofs.lemmas.List.{length-map}
 use Rattle.std.proofs.lemmas.Slice.Eq.{bytes_eq-Decides}
 use Rattle.model_rosters.specs.Folds.{Each, In}
@@ -15,7 +15,7 @@ use Rattle.plan_laws.proofs.Sides.{all_each, map_each}
 use Rattle.plan_laws.proofs.Trees.{each_in}
 use Rattle.plan_laws.proofs.Words.{each_side, in_second}
 use Rattle.plan_rules.specs.NameTexts.{day_text, digits, name_or, name_text, numbered, set_codes, with_code, with_codes}
-use Rattle.plan_rules.specs.Writable.{AreFineCodes, AreFineNames, IsDutyName, IsFineCode, IsFineLine, IsFineSet, IsWritable}
+use Rattle.plan_rules.specs.Writable.{AreFineNames, IsDutyName, IsFineCode, IsFineLine, IsFineSet, IsWritable}
 use Rattle.plan_rules.proofs.FineRules.{Fine}
 
 no_false : false ≡ true → ⊥

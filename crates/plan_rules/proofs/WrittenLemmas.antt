@@ -1,5 +1,5 @@
 -- What is written for a plan is what the law of plans asks.
-use Rattle.std.proofs.Common.{◌≡◌, ◌≢◌, ◌⊎◌, inl, inr, ◌↔◌, ℕ, zero, suc, ◌+◌, ◌≤◌, Bool, true, false, cond, nat_eq, Option, None, Some, List, [], ◌∷◌, ◌++◌, map, slice_get, arith, refl, sym, ap, ◌∙◌, subst}
+use Rattle.std.proofs.Common.{◌≡◌, ◌≢◌, ◌⊎◌, inl, inr, ℕ, suc, ◌+◌, Bool, true, false, cond, nat_eq, Option, None, Some, List, [], ◌∷◌, map, slice_get, arith, refl, sym, ap, ◌∙◌, subst}
 use Rattle.std.proofs.lemmas.Bool.{eq-eqb, eqb-true}
 use Rattle.model_rosters.specs.declared.grammar.CodeDef.{CodeDef}
 use Rattle.model_rosters.specs.declared.grammar.Grammar.{Grammar}
@@ -9,10 +9,9 @@ use Rattle.model_rosters.specs.Trees.{byte_of}
 use Rattle.model_rosters.proofs.EachLemmas.{Each-in}
 use Rattle.plan_laws.specs.declared.period_plan.Activity.{Activity}
 use Rattle.plan_laws.specs.declared.period_plan.NamedLines.{NamedLines}
-use Rattle.plan_laws.specs.declared.period_plan.PeriodDuty.{PeriodDuty}
 use Rattle.plan_laws.specs.declared.period_plan.PeriodPlan.{PeriodPlan}
 use Rattle.plan_laws.specs.Laws.{IsWritten}
-use Rattle.plan_laws.specs.Named.{EachName, NamedRule, Numbers, Symbol, Written, all_rules, coded, named, to_rule}
+use Rattle.plan_laws.specs.Named.{EachName, NamedRule, Numbers, Symbol, all_rules, coded, named, to_rule}
 use Rattle.plan_laws.specs.Names.{Kind, day, start, day_rule, rules_for}
 use Rattle.plan_laws.specs.PeriodShifts.{IsLetter}
 use Rattle.plan_laws.proofs.Sides.{in_map}
@@ -25,8 +24,8 @@ use Rattle.plan_names.specs.StartNames.{only_day, start_kind}
 use Rattle.plan_names.specs.WrittenFor.{written_for}
 use Rattle.plan_names.proofs.Gathering.{at_place, one_place}
 use Rattle.plan_names.proofs.SameNames.{is_same, own_same}
-use Rattle.plan_rules.specs.Closed.{IsClosed, names_in}
-use Rattle.plan_rules.specs.Grammars.{IsGrammarOf, code_place, codes_of, numbers_of, plan_codes}
+use Rattle.plan_rules.specs.Closed.{names_in}
+use Rattle.plan_rules.specs.Grammars.{code_place, codes_of, numbers_of, plan_codes}
 use Rattle.plan_rules.specs.NameTexts.{day_text}
 use Rattle.plan_rules.specs.Outcomes.{HasWritten}
 use Rattle.plan_rules.specs.WrittenLaws.{IsCalled, IsWrittenFor, WrittenLaw}

@@ -1,5 +1,5 @@
 -- The grammar that is written for a plan.
-use Rattle.std.specs.Prelude.{ℕ, suc, ◌≡◌, ◌+◌, Bool, true, false, cond, nat_eq, List, [], ◌∷◌, ◌++◌}
+use Rattle.std.specs.Prelude.{ℕ, suc, ◌≡◌, Bool, true, false, cond, nat_eq, List, [], ◌∷◌, ◌++◌}
 use Rattle.model_rosters.specs.declared.grammar.CodeDef.{CodeDef}
 use Rattle.model_rosters.specs.declared.grammar.Grammar.{Grammar}
 use Rattle.plan_laws.specs.declared.period_plan.Activity.{Activity}

@@ -8,3 +8,4 @@ pub mod PlanSays
 pub mod Writable
 pub mod SoundLaws
 pub mod RuleTexts
+pub mod SaidPlans

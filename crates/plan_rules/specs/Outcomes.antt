@@ -1,5 +1,5 @@
 -- What comes of writing the grammar of a plan.
-use Rattle.std.specs.Prelude.{ℕ, ◌≡◌, ◌<◌, ◌≤◌, ◌⊎◌, List, length}
+use Rattle.std.specs.Prelude.{ℕ, ◌≡◌, ◌<◌, ◌⊎◌, List, length}
 use Rattle.model_rosters.specs.declared.grammar.Grammar.{Grammar}
 use Rattle.model_rosters.specs.Sound.{IsPlain, IsSound}
 use Rattle.plan_laws.specs.declared.period_plan.NamedLines.{NamedLines}

@@ -1,7 +1,6 @@
 -- Plans in numbers of periods whose rules are sound.
-use Rattle.std.specs.Prelude.{ℕ, ◌≡◌, ◌≢◌, ◌≤◌, ◌⊎◌, Bool, not, true, Option, None, Some, List, [], ◌∷◌, length, nat_eq}
-use Rattle.std.specs.List.{list_all}
-use Rattle.model_rosters.specs.Folds.{Each, In, count}
+use Rattle.std.specs.Prelude.{ℕ, ◌≡◌, ◌≢◌, ◌≤◌, ◌⊎◌, not, true, Option, None, Some, List, [], ◌∷◌, length}
+use Rattle.model_rosters.specs.Folds.{Each, count}
 use Rattle.model_rosters.specs.declared.grammar.Window.{Window}
 use Rattle.model_rosters.specs.Names.{is_name, is_name_byte}
 use Rattle.model_rosters.specs.Sound.{IsWindow}

@@ -1,5 +1,5 @@
 -- The law that what is written is what the law of plans asks.
-use Rattle.std.specs.Prelude.{ℕ, ◌≡◌, ◌≢◌, Some, List, [], slice_get}
+use Rattle.std.specs.Prelude.{◌≡◌, ◌≢◌, Some, List, [], slice_get}
 use Rattle.model_rosters.specs.declared.grammar.Grammar.{Grammar}
 use Rattle.model_rosters.specs.Folds.{In}
 use Rattle.plan_laws.specs.declared.period_plan.NamedLines.{NamedLines}

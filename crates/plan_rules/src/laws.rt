@@ -2,6 +2,7 @@
 
 ghost use Rattle.plan_rules.specs.PlanSays.{PlanSaysLaw};
 ghost use Rattle.plan_rules.specs.RuleTexts.{TextSaysLaw};
+ghost use Rattle.plan_rules.specs.SaidPlans.{SaidLaw};
 ghost use Rattle.plan_rules.specs.SoundLaws.{SoundLaw};
 ghost use Rattle.plan_rules.specs.WrittenLaws.{WrittenLaw};
 
@@ -25,6 +26,12 @@ pub fn rules_say_plan()
 /// it is handed out), and there are no more names and rules than a rules text can say.
 pub fn rules_are_sound()
     ensures { SoundLaw }
+{}
+
+/// States a law: a fit plan is one of small numbers, costs, codes and duty names, as [`rules_are_sound`] asks,
+/// where it has beside what a plan text can say only.
+pub fn said_plans_are_writable()
+    ensures { SaidLaw }
 {}
 
 /// States a law: where the duty lines of a plan, in numbers of periods, are handed to

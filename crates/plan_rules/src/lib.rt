@@ -12,5 +12,7 @@ mod texts;
 
 pub use fault::WriteFault;
 pub use grammar::written_rules;
-pub use laws::{rules_are_sound, rules_are_written, rules_say_plan, text_says_plan};
+pub use laws::{
+    rules_are_sound, rules_are_written, rules_say_plan, said_plans_are_writable, text_says_plan,
+};
 pub use text::rules_text_of;

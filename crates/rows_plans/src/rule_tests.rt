@@ -2,7 +2,7 @@
 
 use model_rosters::{Grammar, List, Memory, Window};
 use plan_laws::{Activity, NamedLines, PeriodDuty, PeriodExtra, PeriodPart, PeriodPlan};
-use plan_rules::{WriteFault, written_rules};
+use plan_rules::{WriteFault, rules_text_of, written_rules};
 use std::alloc::Global;
 
 /// Two numbers of periods, of which both count.
@@ -50,6 +50,37 @@ struct RowPlan {
 
 /// A window that is left open.
 const OPEN: RowWindow = (1, 96);
+
+/// Three periods, of which a duty has two.
+const SMALL: RowPlan = RowPlan {
+    periods: 3,
+    codes: &[(b't', true, 1, 2, 5)],
+    extras: &[],
+    change: Some(0),
+    starts: 1,
+    staff: &[(
+        b"",
+        &[((2, 2), 1, &[RowPart::Work(b"t")], OPEN, OPEN, (1, 2), 0)],
+    )],
+    names: 6,
+    rules: 9,
+};
+
+/// The rules text of these, by hand.
+const SMALL_TEXT: &[u8] = b"periods 3
+work t
+idle .
+start Day_0
+rule Day_0 0 = Off_1 Any_duty_2
+rule Day_0 0 = Any_duty_2 Off_1
+rule Off_1 0 = '.'
+rule Off_1 0 = '.' Off_1
+rule Any_duty_2 1 = Work_t_3 len 2 2
+rule Work_t_3 0 = Block_t_4 len 1 2
+rule Block_t_4 0 = At_t_5
+rule Block_t_4 0 = At_t_5 Block_t_4 len 2 2
+rule At_t_5 5 = 't'
+";
 
 /// A shop from 9:00 to 21:00 by hours.
 const SHOP: RowPlan = RowPlan {
@@ -685,9 +716,30 @@ fn is_written(alloc: Global, row: &RowPlan) -> bool {
     }
 }
 
+// Returns the rules text of a plan.
+fn said(alloc: Global, row: &RowPlan) -> Result<List<u8>, WriteFault> {
+    let plan = plan_of(alloc, row)?;
+    let staff = staff_of(alloc, row)?;
+    rules_text_of(alloc, &plan, staff.as_slice())
+}
+
+// Whether this is the rules text of a plan.
+fn is_said(alloc: Global, row: &RowPlan, text: &[u8]) -> bool {
+    match said(alloc, row) {
+        Ok(own) => own.as_slice() == text,
+        Err(_) => false,
+    }
+}
+
+#[test]
+fn a_plan_has_its_text(rt: HostRuntime) {
+    assert!(rt; is_said(rt.alloc(), &SMALL, SMALL_TEXT));
+}
+
 #[test]
 fn plans_are_written(rt: HostRuntime) {
     let alloc = rt.alloc();
+    assert!(rt; is_written(alloc, &SMALL));
     assert!(rt; is_written(alloc, &SHOP));
     assert!(rt; is_written(alloc, &CALL));
     assert!(rt; is_written(alloc, &RETAIL));

@@ -1,4 +1,3 @@
-use Rattle.std.proofs.Common.{◌≡◌, ◌++◌, ◌+◌, ◌≤◌, ℕ, List, [], ◌∷◌, length, map, take, drop, arith, sym, ap, ◌∙◌}
 use Rattle.plan_rules.specs.Grammars.{codes_of}
 use Rattle.plan_rules.proofs.Items.{codes_one, step_behind}
 use Rattle.plan_rules.proofs.codes.add_codes.Goals as goal

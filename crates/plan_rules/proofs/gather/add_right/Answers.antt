@@ -1,6 +1,6 @@
-use Rattle.std.proofs.Common.{◌≡◌, ◌++◌, ◌+◌, ◌≤◌, ℕ, List, [], ◌∷◌, length, map, take, drop, arith, sym, ap, ◌∙◌}
+use Rattle.std.proofs.Common.{List, map}
 use Rattle.plan_names.specs.Same.{same}
-use Rattle.plan_names.specs.Views.{kind_of, rule_of, symbol_of}
+use Rattle.plan_names.specs.Views.{kind_of, symbol_of}
 use Rattle.plan_names.specs.declared.rule.RuleSymbol.{RuleSymbol}
 use Rattle.plan_names.proofs.Gathering.{all_step}
 use Rattle.plan_rules.specs.Closed.{names_in}

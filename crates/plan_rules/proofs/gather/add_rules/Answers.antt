@@ -1,7 +1,7 @@
-use Rattle.std.proofs.Common.{◌≡◌, ◌++◌, ◌+◌, ◌≤◌, ℕ, List, [], ◌∷◌, length, map, take, drop, arith, sym, ap, ◌∙◌}
+use Rattle.std.proofs.Common.{List, map, sym, ap, ◌∙◌}
 use Rattle.plan_names.specs.Same.{same}
 use Rattle.plan_names.specs.Views.{kind_of, rule_of, symbol_of}
-use Rattle.plan_names.specs.Gathered.{has, place, with_all}
+use Rattle.plan_names.specs.Gathered.{with_all}
 use Rattle.std.proofs.lemmas.List.{append-nil}
 use Rattle.plan_laws.specs.Names.{Kind}
 use Rattle.plan_names.specs.declared.rule.NameRule.{NameRule}

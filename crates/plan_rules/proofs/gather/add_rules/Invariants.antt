@@ -1,7 +1,7 @@
-use Rattle.std.proofs.Common.{◌≡◌, ◌++◌, ◌+◌, ◌≤◌, ℕ, List, [], ◌∷◌, length, map, take, drop, arith, sym, ap, ◌∙◌}
+use Rattle.std.proofs.Common.{◌≡◌, map, take}
 use Rattle.plan_names.specs.Same.{same}
-use Rattle.plan_names.specs.Views.{kind_of, rule_of, symbol_of}
-use Rattle.plan_names.specs.Gathered.{has, place, with_all}
+use Rattle.plan_names.specs.Views.{kind_of, rule_of}
+use Rattle.plan_names.specs.Gathered.{with_all}
 use Rattle.plan_rules.specs.Closed.{names_of_rules}
 use Rattle.plan_rules.proofs.gather.add_rules.Given as goal
 

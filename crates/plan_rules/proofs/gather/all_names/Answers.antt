@@ -1,4 +1,4 @@
-use Rattle.std.proofs.Common.{◌≡◌, ◌≤◌, length, map, arith, sym, ◌∙◌}
+use Rattle.std.proofs.Common.{length, map, arith, sym, ◌∙◌}
 use Rattle.std.proofs.lemmas.Bool.{leb-false, leb-true}
 use Rattle.std.proofs.lemmas.List.{length-map}
 use Rattle.plan_names.specs.Views.{kind_of}

@@ -1,8 +1,5 @@
-use Rattle.std.proofs.Common.{◌≡◌, ◌++◌, ◌+◌, ◌≤◌, ℕ, List, [], ◌∷◌, length, map, take, drop, arith, sym, ap, ◌∙◌}
-use Rattle.plan_names.specs.Same.{same}
-use Rattle.plan_names.specs.Views.{kind_of, rule_of, symbol_of}
-use Rattle.plan_names.specs.Gathered.{has, place, with_all}
-use Rattle.plan_names.specs.StartNames.{start_kind}
+use Rattle.std.proofs.Common.{◌≡◌, ◌≤◌, length, map, take}
+use Rattle.plan_names.specs.Views.{kind_of}
 use Rattle.plan_rules.specs.Closed.{AreNeeded, gathered}
 use Rattle.plan_rules.proofs.gather.all_names.Given as goal
 

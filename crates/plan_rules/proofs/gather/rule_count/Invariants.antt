@@ -1,5 +1,5 @@
-use Rattle.std.proofs.Common.{◌≡◌, ◌++◌, ◌+◌, ◌≤◌, ℕ, List, [], ◌∷◌, length, map, take, drop, arith, sym, ap, ◌∙◌}
-use Rattle.plan_names.specs.Views.{kind_of, rule_of, symbol_of}
+use Rattle.std.proofs.Common.{◌≡◌, ◌+◌, map, drop}
+use Rattle.plan_names.specs.Views.{kind_of}
 use Rattle.plan_rules.specs.Closed.{count_rules}
 use Rattle.plan_rules.proofs.gather.rule_count.Given as goal
 

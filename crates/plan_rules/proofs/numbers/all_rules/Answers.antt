@@ -1,5 +1,5 @@
-use Rattle.std.proofs.Common.{◌≡◌, ◌++◌, ◌+◌, ◌≤◌, ℕ, List, [], ◌∷◌, length, map, take, drop, arith, sym, ap, ◌∙◌}
-use Rattle.plan_names.specs.Views.{kind_of, rule_of, symbol_of}
+use Rattle.std.proofs.Common.{◌++◌, List, map, sym, ap, ◌∙◌}
+use Rattle.plan_names.specs.Views.{kind_of}
 use Rattle.std.proofs.lemmas.List.{append-nil}
 use Rattle.model_rosters.specs.declared.grammar.Rule.{Rule}
 use Rattle.plan_laws.specs.Named.{all_rules, to_rule}

@@ -1,5 +1,5 @@
-use Rattle.std.proofs.Common.{◌≡◌, ◌++◌, ◌+◌, ◌≤◌, ℕ, List, [], ◌∷◌, length, map, take, drop, arith, sym, ap, ◌∙◌}
-use Rattle.plan_names.specs.Views.{kind_of, rule_of, symbol_of}
+use Rattle.std.proofs.Common.{◌≡◌, map, take}
+use Rattle.plan_names.specs.Views.{kind_of, symbol_of}
 use Rattle.plan_laws.specs.Named.{to_sym}
 use Rattle.plan_rules.specs.Grammars.{numbers_of}
 use Rattle.plan_rules.proofs.numbers.numbers_of.Given as goal

@@ -1,7 +1,7 @@
-use Rattle.std.proofs.Common.{◌≡◌, ◌++◌, ◌+◌, ◌≤◌, ℕ, List, [], ◌∷◌, length, map, take, drop, arith, sym, ap, ◌∙◌}
+use Rattle.std.proofs.Common.{◌≡◌, ◌+◌, map, drop}
 use Rattle.plan_names.specs.Same.{same}
-use Rattle.plan_names.specs.Views.{kind_of, rule_of, symbol_of}
-use Rattle.plan_names.specs.Gathered.{has, place, with_all}
+use Rattle.plan_names.specs.Views.{kind_of}
+use Rattle.plan_names.specs.Gathered.{place}
 use Rattle.plan_rules.proofs.numbers.place_of.Given as goal
 
 abbrev pub invariant-loop-other : goal.invariant-loop-other

@@ -1,4 +1,4 @@
-use Rattle.std.proofs.Common.{◌≡◌, ℕ, List, Ok, sym, subst}
+use Rattle.std.proofs.Common.{ℕ, List, Ok, sym, subst}
 use Rattle.text_rules.specs.RulesOf.{IsReading}
 use Rattle.text_rules.proofs.GrammarAgain.{grammar_again}
 use Rattle.plan_rules.proofs.text.rules_text_of.Goals as goal

@@ -1,4 +1,4 @@
-use Rattle.std.proofs.Common.{◌≡◌, ◌++◌, ◌+◌, ◌≤◌, ℕ, List, [], ◌∷◌, length, map, take, drop, arith, sym, ap, ◌∙◌}
+use Rattle.std.proofs.Common.{arith}
 use Rattle.plan_rules.proofs.TextPlaces.{texts_step}
 use Rattle.plan_rules.proofs.texts.name_texts.Goals as goal
 
