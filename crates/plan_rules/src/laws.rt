@@ -28,8 +28,8 @@ pub fn rules_are_sound()
     ensures { SoundLaw }
 {}
 
-/// States a law: a fit plan is one of small numbers, costs, codes and duty names, as [`rules_are_sound`] asks,
-/// where it has beside what a plan text can say only.
+/// States a law: a fit plan is one of small numbers, costs, codes and duty names, as [`rules_are_sound`]
+/// asks, where it has beside what a plan text can say only.
 pub fn said_plans_are_writable()
     ensures { SaidLaw }
 {}
