@@ -112,15 +112,22 @@ fn is_spelt(forecast: &Forecast) -> bool {
         && calls.most.is_none()
 }
 
+// Whether a spelling is read so.
+fn is_read_so(alloc: Global, plan: &Plan, text: &[u8]) -> bool {
+    if !is_sound_day(&plan.day) {
+        return false;
+    }
+    match read_forecast(alloc, plan, text) {
+        Ok(forecast) => is_spelt(&forecast),
+        Err(_) => false,
+    }
+}
+
 // How many spellings are read so, up to the first that is not.
 fn spelt(alloc: Global, plan: &Plan) -> usize {
-    if !is_sound_day(&plan.day) {
-        return 0;
-    }
     for (place, text) in SPELLINGS.iter().enumerate() {
-        match read_forecast(alloc, plan, text.as_bytes()) {
-            Ok(forecast) if is_spelt(&forecast) => {}
-            _ => return place,
+        if !is_read_so(alloc, plan, text.as_bytes()) {
+            return place;
         }
     }
     SPELLINGS.len()
