@@ -19,7 +19,7 @@ use Rattle.search_branch_price.specs.Found.{IsDone, IsFound}
 use Rattle.search_days.specs.Solutions.{HasArcCount}
 use Rattle.model_made_days.specs.Made.{made_instance}
 use Rattle.text_proof_pieces.specs.declared.fault.ProofFault.{ProofFault}
-use Rattle.text_proof_pieces.specs.CertOf.{proof_of}
+use Rattle.text_old_shifts.specs.FromOf.{from_of}
 use Rattle.text_proof_pieces.specs.FaultLine as proof
 use Rattle.command_shelf.specs.Shelf.{Texts}
 use Rattle.command_searches.specs.Make.{AnswersMake}
@@ -68,11 +68,11 @@ days_alike i old m n limit s t a b x y (solves.too_many ps h) (solves.too_many q
 
 proofs_alike : (i : Instance) (text : List ℕ) (m n : MasterView) (limit : Limit) (s t : ℕ) (a b : List ℕ) (x y : Option (List ℕ)) → SolvesProof i text m limit s a x → SolvesProof i text n limit t b y → EndAlike s t a b x y
 proofs_alike i text m n limit s t a b x y (solves.SolvesProof.accepted c p ps z e h) (solves.SolvesProof.accepted d q qs w f k) =
-    days_alike i (Some d) m n limit s t a b x y (subst (λ (o : Cert). Solving i (Some o) m limit s a x) (same_ok (proof_of i text) c d e f) h) k
-proofs_alike i text m n limit s t a b x y (solves.SolvesProof.accepted c p ps z e h) (solves.SolvesProof.refused qs k) = absurd (not_both (proof_of i text) c k.fault e k.reading)
-proofs_alike i text m n limit s t a b x y (solves.SolvesProof.refused ps h) (solves.SolvesProof.accepted d q qs w f k) = absurd (not_both (proof_of i text) d h.fault f h.reading)
+    days_alike i (Some d) m n limit s t a b x y (subst (λ (o : Cert). Solving i (Some o) m limit s a x) (same_ok (from_of i text) c d e f) h) k
+proofs_alike i text m n limit s t a b x y (solves.SolvesProof.accepted c p ps z e h) (solves.SolvesProof.refused qs k) = absurd (not_both (from_of i text) c k.fault e k.reading)
+proofs_alike i text m n limit s t a b x y (solves.SolvesProof.refused ps h) (solves.SolvesProof.accepted d q qs w f k) = absurd (not_both (from_of i text) d h.fault f h.reading)
 proofs_alike i text m n limit s t a b x y (solves.SolvesProof.refused ps h) (solves.SolvesProof.refused qs k) =
-    refused_alike 5 4 a b refl (h.line ∙ ap (λ (z : ProofFault). proof.fault_line z) (same_err (proof_of i text) h.fault k.fault h.reading k.reading) ∙ sym k.line)
+    refused_alike 5 4 a b refl (h.line ∙ ap (λ (z : ProofFault). proof.fault_line z) (same_err (from_of i text) h.fault k.fault h.reading k.reading) ∙ sym k.line)
 
 -- with the name of an old certificate, or without
 froms_alike : (held : Texts) (from : Option (List ℕ)) (i : Instance) (m n : MasterView) (limit : Limit) (s t : ℕ) (a b : List ℕ) (x y : Option (List ℕ)) → SolvesFrom (Some held) i from m limit s a x

@@ -10,6 +10,7 @@ use Rattle.command_answers.specs.Reader.{Holds, IsReader}
 use Rattle.command_answers.specs.Says as says
 use Rattle.command_searches.specs.declared.limit.Limit.{Limit}
 use Rattle.command_searches.specs.Solve.{MasterView, SaysFound, SolvesFrom, SolvesRules, AnswersSolve, from_names}
+use Rattle.command_searches.specs.From.{RefusesFrom}
 use Rattle.command_searches.specs.Solve as solves
 use Rattle.command_searches.specs.SolveAnswers.{IsSolved, SaysOld, SolveAnswers}
 use Rattle.command_searches.specs.SolveAnswers as tops
@@ -97,7 +98,7 @@ module _ (held : Option Texts) (rules demand : List ℕ) (from : Option (List �
   old-parts (Some name) i (Some c) s o x h a = record { text = h.text; holds = h.holds; answers = solves.SolvesProof.accepted c s o x h.says a }
 
   -- or with a proof text that is refused
-  refused-parts : (name : Option (List ℕ)) (own : List ℕ) (i : Instance) (o : List ℕ) → name ≡ Some own → says.RefusesProof held i own o → SolvesFrom held i name m limit 5 o None
+  refused-parts : (name : Option (List ℕ)) (own : List ℕ) (i : Instance) (o : List ℕ) → name ≡ Some own → RefusesFrom held i own o → SolvesFrom held i name m limit 5 o None
   refused-parts None own i o e h = let clash : ◌≡◌ {A = Option (List ℕ)} None (Some own) = e in cc
   refused-parts (Some name) own i o e h =
       let same : name ≡ own = same_Some name own e in

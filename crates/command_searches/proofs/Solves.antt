@@ -16,7 +16,7 @@ use Rattle.text_demand_lines.specs.FaultLine as demand
 use Rattle.text_demand.specs.InstanceOf.{instance_of}
 use Rattle.text_proof_pieces.specs.declared.fault.ProofFault.{ProofFault}
 use Rattle.text_proof_pieces.specs.declared.fault.ProofFault.TheVariants as proof_faults
-use Rattle.text_proof_pieces.specs.CertOf.{proof_of}
+use Rattle.text_old_shifts.specs.FromOf.{from_of}
 use Rattle.text_proof_pieces.specs.FaultLine as proof
 use Rattle.text_rules.specs.FaultLine.{fault_line}
 use Rattle.text_rules.specs.RulesOf.{IsReading}
@@ -113,18 +113,18 @@ module _ (i : Instance) (old : Option Cert) (m : MasterView) (limit : Limit) whe
 -- an instance and the proof text of an old certificate
 module _ (name : List ℕ) (before after : Told) (status : ℕ) (i : Instance) (m : MasterView) (limit : Limit) where
   refused_proof : (text : List ℕ) (fault : ProofFault) (r : Result Answer Memory) → IfOk r (λ a. (fault ≢ proof_faults.Memory) × (a.status ≡ 5) × (a.output ≡ proof.fault_line fault))
-      → (fault ≢ proof_faults.Memory → proof_of i text ≡ Err fault) → (status : ℕ) (output : List ℕ) (stored : Option (List ℕ)) → StoresNothing (IsAnswer r) status output stored → SolvesProof i text m limit status output stored
+      → (fault ≢ proof_faults.Memory → from_of i text ≡ Err fault) → (status : ℕ) (output : List ℕ) (stored : Option (List ℕ)) → StoresNothing (IsAnswer r) status output stored → SolvesProof i text m limit status output stored
   refused_proof text fault (Err e) h reading status output stored a = absurd a.0
   refused_proof text fault (Ok x) h reading status output stored a =
       let s : status ≡ 5 = a.0.0 ∙ h.1 in
       rw (s, a.1) (solves.SolvesProof.refused output (record { fault = fault; reading = reading h.0; line = a.0.1 ∙ h.2 }))
 
   pub proof-refused : (text : List ℕ) (fault : ProofFault) (r : Result Answer Memory) → IfOk r (λ a. (fault ≢ proof_faults.Memory) × (a.status ≡ 5) × (a.output ≡ proof.fault_line fault))
-      → (fault ≢ proof_faults.Memory → proof_of i text ≡ Err fault) → IsReader (IsAnswer r) [] before after status → IsWriter (SolvesProof i text m limit) [] name before after status
+      → (fault ≢ proof_faults.Memory → from_of i text ≡ Err fault) → IsReader (IsAnswer r) [] before after status → IsWriter (SolvesProof i text m limit) [] name before after status
   proof-refused text fault r h reading reader =
       widen (StoresNothing (IsAnswer r)) (SolvesProof i text m limit) (refused_proof text fault r h reading) [] [] name before after status (λ h. h) (as_writer (IsAnswer r) [] name before after status reader)
 
-  pub proof-accepted : (text : List ℕ) (c : Cert) → proof_of i text ≡ Ok c → IsWriter (Solving i (Some c) m limit) [] name before after status → IsWriter (SolvesProof i text m limit) [] name before after status
+  pub proof-accepted : (text : List ℕ) (c : Cert) → from_of i text ≡ Ok c → IsWriter (Solving i (Some c) m limit) [] name before after status → IsWriter (SolvesProof i text m limit) [] name before after status
   proof-accepted text c reading w =
       widen (Solving i (Some c) m limit) (SolvesProof i text m limit) (λ s o x a. solves.SolvesProof.accepted c s o x reading a) [] [] name before after status (λ h. h) w
 

@@ -1,5 +1,6 @@
 pub mod Limits
 pub mod Writer
+pub mod From
 pub mod Solve
 pub mod Make
 pub mod Reuse

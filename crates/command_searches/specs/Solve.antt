@@ -2,6 +2,7 @@
 use Rattle.std.specs.Prelude.{ℕ, ◌≡◌, ◌<◌, ◌++◌, Bool, List, [], ◌∷◌, Option, None, Some, Ok, codes, length}
 use Rattle.std.specs.Fmt.{decimal}
 use Rattle.command_searches.specs.declared.limit.Limit.{Limit}
+use Rattle.command_searches.specs.From.{SaysFromFault}
 use Rattle.command_searches.specs.Limits.{ForLimit}
 use Rattle.model_rosters.specs.declared.grammar.ArcKey.{ArcKey}
 use Rattle.model_rosters.specs.declared.grammar.Grammar.{Grammar}
@@ -17,8 +18,9 @@ use Rattle.search_branch_price.specs.declared.found.Found.{Found}
 use Rattle.search_branch_price.specs.Found.{IsFound, AreCounted}
 use Rattle.search_days.specs.Solutions.{HasArcCount, IsReportText}
 use Rattle.text_proof_pieces.specs.CertOf.{proof_of}
+use Rattle.text_old_shifts.specs.FromOf.{from_of}
 use Rattle.command_shelf.specs.Shelf.{Texts}
-use Rattle.command_answers.specs.Readings.{IsInstanceOf, SaysDemandFault, SaysProofFault, IsGrammarOf, SaysFault}
+use Rattle.command_answers.specs.Readings.{IsInstanceOf, SaysDemandFault, IsGrammarOf, SaysFault}
 use Rattle.command_answers.specs.Reader.{Holds}
 
 -- a master: whether it refuses hard nodes alone, and how many nodes it had refused before and has refused now
@@ -89,14 +91,14 @@ pub data Solving (i : Instance) (old : Option Cert) (m : MasterView) (limit : Li
       → Solving i old m limit status output (Some stored)
   too_many : (output : List ℕ) → SaysTooManyArcs i.grammar output → Solving i old m limit 9 output None
 
--- the answers for an instance and the proof text of an old certificate
+-- the answers for an instance and an old text: a certificate of the day, or the shifts of another one
 pub data SolvesProof (i : Instance) (text : List ℕ) (m : MasterView) (limit : Limit) :
     ℕ → List ℕ → Option (List ℕ) → Type 0 where
-  accepted : (c : Cert) (status : ℕ) (output : List ℕ) (stored : Option (List ℕ)) → proof_of i text ≡ Ok c
+  accepted : (c : Cert) (status : ℕ) (output : List ℕ) (stored : Option (List ℕ)) → from_of i text ≡ Ok c
       → Solving i (Some c) m limit status output stored → SolvesProof i text m limit status output stored
-  refused : (output : List ℕ) → SaysProofFault i text output → SolvesProof i text m limit 5 output None
+  refused : (output : List ℕ) → SaysFromFault i text output → SolvesProof i text m limit 5 output None
 
--- the same, where the proof text stands under a name
+-- the same, where the old text stands under a name
 pub record AnswersSolveProof (held : Option Texts) (i : Instance) (name : List ℕ) (m : MasterView) (limit : Limit)
     (status : ℕ) (output : List ℕ) (stored : Option (List ℕ)) : Type 0 where
   pub text : List ℕ

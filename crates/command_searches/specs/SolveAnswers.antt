@@ -8,7 +8,8 @@ use Rattle.check_certificates.specs.certificate_laws.Right.{YesIsRight}
 use Rattle.search_days.specs.Solutions.{HasArcCount, IsReportText}
 use Rattle.text_proof_pieces.specs.CertOf.{proof_of}
 use Rattle.command_shelf.specs.Shelf.{Texts}
-use Rattle.command_answers.specs.Says.{SaysDay, SaysCert, RefusesRules, RefusesDemand, RefusesProof}
+use Rattle.command_answers.specs.Says.{SaysDay, RefusesRules, RefusesDemand}
+use Rattle.command_searches.specs.From.{RefusesFrom, SaysFrom}
 use Rattle.command_searches.specs.declared.limit.Limit.{Limit}
 use Rattle.command_searches.specs.Limits.{ForLimit}
 use Rattle.command_searches.specs.Solve.{MasterView, SaysTooManyArcs, done_status, IsNoDearerThanOld}
@@ -36,12 +37,12 @@ pub record IsSolved (i : Instance) (old : Option Cert) (m : MasterView) (limit :
   pub few : HasArcCount i.grammar arcs
   pub quality : IsSearched i m limit found
 
--- the certificate that the proof text under a name says, where a name is said
+-- the certificate that the old text under a name says, where a name is said
 abbrev pub SaysOld : Option Texts → Instance → Option (List ℕ) → Option Cert → Type 0
 SaysOld held i None None = Unit {0}
 SaysOld held i None (Some c) = ⊥
 SaysOld held i (Some name) None = ⊥
-SaysOld held i (Some name) (Some c) = SaysCert held i name c
+SaysOld held i (Some name) (Some c) = SaysFrom held i name c
 
 pub data SolveAnswers (held : Option Texts) (rules demand : List ℕ) (from : Option (List ℕ)) (m : MasterView)
     (limit : Limit) : ℕ → List ℕ → Option (List ℕ) → Type 0 where
@@ -53,7 +54,7 @@ pub data SolveAnswers (held : Option Texts) (rules demand : List ℕ) (from : Op
   demand_refused : (output : List ℕ) → RefusesDemand held rules demand output
       → SolveAnswers held rules demand from m limit 4 output None
   proof_refused : (i : Instance) (name output : List ℕ) → SaysDay held rules demand i → from ≡ Some name
-      → RefusesProof held i name output → SolveAnswers held rules demand from m limit 5 output None
+      → RefusesFrom held i name output → SolveAnswers held rules demand from m limit 5 output None
   too_many_arcs : (i : Instance) (old : Option Cert) (output : List ℕ) → SaysDay held rules demand i
       → SaysOld held i from old → SaysTooManyArcs i.grammar output
       → SolveAnswers held rules demand from m limit 9 output None

@@ -3,6 +3,7 @@
 #![tactic(auto)]
 
 pub mod curve;
+mod from;
 mod idle_codes;
 mod infeasible;
 pub mod limit;

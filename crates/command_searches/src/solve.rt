@@ -27,6 +27,7 @@ ghost use Rattle.command_searches.specs.SolveAnswers.{SolveAnswers};
 ghost use Rattle.command_searches.specs.Limits.{IsLimit};
 ghost use Rattle.command_searches.specs.Writer.{IsWriter};
 
+use crate::from::{from_note, note_passed};
 use crate::limit::Limit;
 use crate::notes::note_search;
 use crate::reuse::text_refusal;
@@ -42,10 +43,10 @@ use model_rosters::{Grammar, Instance, List, Memory};
 use search_branch_price::{Done, Found, Master, Subject, Watch};
 use search_days::{Solution, solution_report, solve_day, solve_day_from};
 use std::alloc::Global;
-use text_certificates::read_cert;
 use text_demand::read_demand;
-use text_fault_notes::{demand_note, proof_note, rules_note};
+use text_fault_notes::{demand_note, rules_note};
 use text_lines::{put, write_number};
+use text_old_shifts::read_from;
 use text_rules::read_rules;
 use tree_graph::GraphFault;
 
@@ -186,7 +187,7 @@ fn solve_asked<S: Shelf, M: Master, W: Watch>(
     }
 }
 
-// Solves an instance from the certificate of a proof text.
+// Solves an instance from what an old text says: a certificate of the day, or the shifts of another one.
 fn solve_proof_text<S: Shelf, M: Master, W: Watch>(
     alloc: Global,
     shelf: &mut S,
@@ -203,26 +204,29 @@ fn solve_proof_text<S: Shelf, M: Master, W: Watch>(
     ensures { IsWriter (SolvesProof instance.now text.now (lent (M.strict master.old) (M.refused master.old)
         (M.refused master.new)) limit) [] proof.now (S.told shelf.old) (S.told shelf.new) result }
 {
-    match read_cert(alloc, instance, text) {
-        Ok(cert) => solve_asked(
-            alloc,
-            shelf,
-            demand,
-            instance,
-            Some(&cert),
-            proof,
-            limit,
-            master,
-            watch,
-        ),
+    match read_from(alloc, instance, text) {
+        Ok(cert) => {
+            note_passed(alloc, shelf, instance, text);
+            solve_asked(
+                alloc,
+                shelf,
+                demand,
+                instance,
+                Some(&cert),
+                proof,
+                limit,
+                master,
+                watch,
+            )
+        }
         Err(fault) => {
-            let note = proof_note(alloc, text, instance, fault);
+            let note = from_note(alloc, instance, text, fault);
             say_remarked(shelf, text, text_refusal(alloc, fault), note)
         }
     }
 }
 
-// Solves an instance from the certificate of the proof text under a name.
+// Solves an instance from the old text under a name.
 fn solve_proof<S: Shelf, M: Master, W: Watch>(
     alloc: Global,
     shelf: &mut S,
@@ -256,7 +260,7 @@ fn solve_proof<S: Shelf, M: Master, W: Watch>(
     }
 }
 
-// Solves an instance, from the certificate of the proof text under a name where one is said.
+// Solves an instance, from the old text under a name where one is said.
 fn solve_from<S: Shelf, M: Master, W: Watch>(
     alloc: Global,
     shelf: &mut S,

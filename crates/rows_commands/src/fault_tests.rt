@@ -406,11 +406,36 @@ proof: line 1: bad header
 !
 proof: line 1: report 1 stands first; proof 1 is wanted, since the day has no groups
 > solve g2 q2 p 1 proof
-report 1
+reports 1
 < 5
 proof: line 1: bad header
 !
-proof: line 1: report 1 stands first; proof 1 is wanted, since the day has no groups
+proof: line 1: reports 1 stands first; proof 1 is wanted, since the day has no groups
+> solve g2 q2 p 1 proof
+proof 1; shift aa. 2 \u{e4}
+< 5
+proof: line 2: bad byte
+!
+proof: line 2, word 4: the byte 195 is no printable ASCII; only a comment may hold it
+> solve g2 q2 p 1 proof
+proof 1; cost 4; bound 3; shift aa. two
+< 5
+proof: line 4: bad number
+!
+proof: line 4, word 3: two stands where a number may
+> solve g2 q2 p 1 proof
+report 2; cost 4; shift aa.
+< 5
+proof: line 1: bad header
+!
+proof: line 3: 2 words; the form is shift WORD, or with a number behind it; \
+behind proof 2 and report 2 a name stands before WORD
+> solve g2 q2 p 1 proof
+report 1; result none; cost none
+< 5
+proof: line 1: bad header
+!
+proof: line 3: the report says that there is no roster
 ";
 
 #[test]

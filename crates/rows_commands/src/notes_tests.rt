@@ -135,7 +135,7 @@ solve RULES DEMAND PROOF LIMIT [FROM]
 curve RULES DEMAND PROOF LIMIT [NAME]
 make NUMBER PROOF LIMIT
 LIMIT is 1 to 10000 turns, or 1s to 86400s for seconds; MOST 1 to 1000, NUMBER 0 to 4294967295;
-KIND is floors or ceilings; FROM is an old proof to begin with;
+KIND is floors or ceilings; FROM is an old proof or report to begin with;
 NAME is a name of the rules to begin at, in place of the start name; of curve the name of a group
 ";
 

@@ -168,6 +168,43 @@ fn rosters_are_found(rt: HostRuntime) -> Result<(), Fail> {
     have_answers(rt.alloc(), SEARCHES)
 }
 
+/// Old texts with which a search begins: a report, one of a day with groups where this one has none, and
+/// where it has some one with a name of none of them, and one without names.
+const OLD_TEXTS: &str = "
+> solve g2 q2 p 1 proof
+report 1; result stated; cost 9; shift aa. 5; shift .aa; over a 0 1 0
+< 8 ..
+result turns
+cost 4
+bound 3
+shift .aa 2
+shift aa. 2
+!
+> solve g2 q2 p 1 proof
+proof 2; cost 4; bound 4; shift Nurse aa. 2; shift Aide .aa 2; priced 1; price b 1 1 1; end
+< 8 ..
+cost 4
+bound 3
+!
+> solve g6 needed p 10 proof
+report 2; shift F aa 3; shift K a. 1
+< 0 ..
+result optimal
+!
+proof: 1 of 2 shifts passed over, which have no name of a group of the demand
+> solve g6 needed p 10 proof
+proof 1; cost 3; bound 0; shift aa 3; bare; end
+< 0 ..
+result optimal
+!
+proof: 1 of 1 shifts passed over, which have no name of a group of the demand
+";
+
+#[test]
+fn searches_begin_with_old_texts(rt: HostRuntime) -> Result<(), Fail> {
+    have_answers(rt.alloc(), OLD_TEXTS)
+}
+
 /// Searches of each point of a curve.
 const CURVES: &str = "
 > curve g1 q1 p 10

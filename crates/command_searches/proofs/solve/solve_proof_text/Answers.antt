@@ -2,7 +2,9 @@ use Rattle.command_searches.proofs.Solves.{proof-accepted, proof-refused}
 use Rattle.command_searches.proofs.solve.solve_proof_text.Goals as goal
 
 pub returns-in-Ok : goal.returns-in-Ok
-returns-in-Ok g c = proof-accepted c.args.proof.now _ _ _ c.args.instance.now _ c.args.limit c.args.text.now c.in-Ok.cert c.in-Ok.ensures.value c.solve_asked.ensures
+returns-in-Ok g c =
+    proof-accepted c.args.proof.now _ _ _ c.args.instance.now _ c.args.limit c.args.text.now c.in-Ok.cert c.in-Ok.ensures.value
+    (rw c.note_passed.ensures at c.solve_asked.ensures)
 
 pub returns-in-Err : goal.returns-in-Err
 returns-in-Err g c =
