@@ -1,0 +1,2 @@
+pub mod DemandLemmas
+pub mod DraftLemmas
